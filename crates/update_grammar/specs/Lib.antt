@@ -1,0 +1,10 @@
+pub mod Pieces
+pub mod Prefixes
+pub mod Values
+pub mod Attributes
+pub mod Families
+pub mod Meanings
+pub mod Update
+pub mod Head
+pub mod Written
+pub mod Net
