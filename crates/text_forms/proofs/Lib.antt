@@ -1,0 +1,6 @@
+pub mod CutLemmas
+pub mod LineLemmas
+pub mod WordLemmas
+pub mod DecimalLemmas
+pub mod AsnLemmas
+pub mod AddressLemmas

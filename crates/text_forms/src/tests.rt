@@ -1,0 +1,1 @@
+//! Texts read and refused, and lines.
