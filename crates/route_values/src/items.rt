@@ -83,7 +83,7 @@ impl<T: Copy> Items<T> {
     }
 }
 
-impl<T: Copy + Eq> Items<T> {
+impl<T: Copy + PartialEq> Items<T> {
     ghost use Rattle.route_values.specs.Sent.{first_places};
 
     /// The list with each value at its first place alone. Its cost grows with the square of the number of values.

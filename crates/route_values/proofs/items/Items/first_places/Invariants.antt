@@ -3,4 +3,4 @@ use Rattle.route_values.specs.Sent.{first_places}
 use Rattle.route_values.proofs.items.Items.first_places.Given as goal
 
 abbrev pub invariant-loop-item : goal.invariant-loop-item
-invariant-loop-item g l = l.kept.items ≡ first_places g.T.Eq.eq (take l.item-index l.item-items)
+invariant-loop-item g l = l.kept.items ≡ first_places g.T.PartialEq.eq (take l.item-index l.item-items)
