@@ -1,6 +1,5 @@
 -- Addresses and prefixes as texts.
-use Rattle.std.proofs.Common.{ℕ, ◌≡◌, ◌≢◌, ◌<◌, ◌≤◌, ◌^◌, List, ◌∷◌, ◌++◌, All, decimal, arith, ap, sym, ◌∙◌, refl, subst, Option, Some, None, inl, inr}
-use Rattle.std.specs.Option.{SomeIff, IfSome, IfNone}
+use Rattle.std.proofs.Common.{ℕ, ◌≡◌, ◌≢◌, ◌<◌, ◌≤◌, ◌^◌, List, ◌∷◌, ◌++◌, All, decimal, arith, ap, sym, ◌∙◌, refl, subst, inl, inr}
 use Rattle.route_values.specs.declared.addr.Addr.{Addr}
 use Rattle.route_values.specs.declared.addr.Addr.TheVariants.{V4}
 use Rattle.route_values.specs.Prefix.{Block, IsPrefix}
@@ -106,16 +105,3 @@ pub no_whole : (text : List ℕ) (block : Block) → Lacks 47 text → ((n : ℕ
 no_whole text block lacks none (n, is, canonical, inl masked) = lacks_none 47 masked.0 (decimal block.len) (subst (Lacks 47) masked.2 lacks)
 no_whole text block lacks none (n, is, canonical, inr whole) =
     none n whole.0 (subst (λ (b : ℕ). IsPrefix (V4 n) b) whole.1 (subst (λ (a : Addr). IsPrefix a block.len) is canonical))
-
--- an answer that comes exactly where a fact holds is None only where it fails
-pub none_from : {T : Type 0} (r : Option T) (P : Type 0) (v : T) (Q : Type 0) → SomeIff r P v → ((P → ⊥) → Q) → IfNone r Q
-none_from None P v Q says make = make says
-none_from (Some x) P v Q says make = tt
-
-pub some_map : {T : Type 0} (r : Option T) (P Q : T → Type 0) → ((x : T) → P x → Q x) → IfSome r P → IfSome r Q
-some_map None P Q make holds = tt
-some_map (Some x) P Q make holds = make x holds
-
-pub none_map : {T : Type 0} (r : Option T) (P Q : Type 0) → (P → Q) → IfNone r P → IfNone r Q
-none_map None P Q make holds = make holds
-none_map (Some x) P Q make holds = tt

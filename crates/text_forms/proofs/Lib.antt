@@ -1,3 +1,4 @@
+pub mod OptionLemmas
 pub mod CutLemmas
 pub mod LineLemmas
 pub mod WordLemmas

@@ -48,6 +48,8 @@ pub fn ipv4_prefix(text: &[u8]) -> Option<Prefix>
 // The number up to 255 before the first dot, and what follows that dot.
 fn leading_octet(text: &[u8]) -> Option<(u8, &[u8])>
     ensures found { IfSome result (λ parts. text.now ≡ decimal parts.0 ++ 46 ∷ parts.1.now) }
+    ensures only { IfSome result (λ parts. (n : ℕ) (tail : List ℕ) → n < 256 → text.now ≡ decimal n ++ 46 ∷ tail
+        → (n ≡ parts.0) × (tail ≡ parts.1.now)) }
     ensures none { IfNone result ((n : ℕ) (tail : List ℕ) → n < 256 → text.now ≢ decimal n ++ 46 ∷ tail) }
 {
     let Some((front, rest)) = cut(text, b'.') else {

@@ -1,6 +1,6 @@
 //! AS numbers as texts.
 ghost use Rattle.std.specs.Prelude.{◌≡◌, ◌≢◌, ◌+◌, ◌*◌, ◌<◌, ◌^◌, ◌++◌, ◌∷◌, ℕ, decimal, IfSome, IfNone};
-ghost use Rattle.text_forms.specs.Numbers.{IsAsn, IsDottedAsn};
+ghost use Rattle.text_forms.specs.Numbers.{IsAsn};
 
 use crate::cutting::cut;
 use crate::decimals::{half, number};
@@ -20,7 +20,7 @@ pub fn asn(text: &[u8]) -> Option<u32>
 
 // An AS number of which the halves are given.
 fn dotted_asn(high: &[u8], low: &[u8]) -> Option<u32>
-    ensures found { IfSome result (λ n. (0 < n) × IsDottedAsn (high.now ++ 46 ∷ low.now) n) }
+    ensures found { IfSome result (λ n. IsAsn (high.now ++ 46 ∷ low.now) n) }
     ensures none { IfNone result ((h l : ℕ) → h < 65536 → l < 65536 → high.now ≡ decimal h → low.now ≡ decimal l → h * 65536 + l ≡ 0) }
 {
     let Some(high) = half(high) else {
@@ -34,7 +34,7 @@ fn dotted_asn(high: &[u8], low: &[u8]) -> Option<u32>
 }
 
 fn plain_asn(text: &[u8]) -> Option<u32>
-    ensures found { IfSome result (λ n. (0 < n) × (text.now ≡ decimal n)) }
+    ensures found { IfSome result (λ n. IsAsn text.now n) }
     ensures none { IfNone result ((m : ℕ) → 0 < m → m < 2 ^ 32 → text.now ≢ decimal m) }
 {
     let Some(number) = number(text) else {

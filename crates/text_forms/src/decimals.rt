@@ -42,6 +42,7 @@ pub fn half(text: &[u8]) -> Option<u16>
 // `parse` takes a sign and leading zeros too, so that the text is compared with the number's own.
 fn number_in(text: &str) -> Option<u32>
     ensures found { IfSome result (λ n. text.now ≡ decimal n) }
+    ensures only { IfSome result (λ n. (m : ℕ) → m < 2 ^ 32 → text.now ≡ decimal m → m ≡ n) }
     ensures none { IfNone result ((m : ℕ) → m < 2 ^ 32 → text.now ≢ decimal m) }
 {
     match text.parse::<u32>() {

@@ -16,7 +16,7 @@ mod word;
 pub use addresses::{ipv4, ipv4_prefix};
 pub use asns::asn;
 pub use cutting::cut;
-pub use decimals::{number, octet};
+pub use decimals::{half, number, octet};
 pub use lines::{Line, first_line};
 pub use word::{first_word, is_blank, words};
 

@@ -5,6 +5,9 @@ use Rattle.std.proofs.lemmas.Bool.Decides.{Decides-eqb}
 use Rattle.text_forms.proofs.DecimalLemmas.{same_number, no_fault}
 use Rattle.text_forms.proofs.decimals.number_in.Goals as goal
 
+pub returns-then-eq-clause-only : goal.returns-then-eq-clause-only
+returns-then-eq-clause-only c = λ m small is. sym (same_number c.in-Ok.number m c.args.text.now small is c.in-Ok.ensures.value.0)
+
 pub returns-else-eq-clause-none : goal.returns-else-eq-clause-none
 returns-else-eq-clause-none c = λ n small is.
     let same = same_number c.in-Ok.number n c.args.text.now small is c.in-Ok.ensures.value.0 in
