@@ -1,0 +1,7 @@
+pub mod OptionLemmas
+pub mod CutLemmas
+pub mod LineLemmas
+pub mod WordLemmas
+pub mod DecimalLemmas
+pub mod AsnLemmas
+pub mod AddressLemmas

@@ -1,0 +1,6 @@
+pub mod Blanks
+pub mod Lines
+pub mod LineTold
+pub mod Words
+pub mod Numbers
+pub mod Addresses

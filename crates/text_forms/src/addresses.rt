@@ -1,0 +1,87 @@
+//! IPv4 addresses and prefixes as texts.
+ghost use Rattle.std.specs.Prelude.{◌≡◌, ◌≢◌, ◌<◌, ◌++◌, ◌∷◌, ℕ, List, decimal, IfSome, IfNone};
+ghost use Rattle.route_values.specs.declared.addr.Addr.TheVariants.{V4};
+ghost use Rattle.route_values.specs.Prefix.{Block, IsPrefix};
+ghost use Rattle.text_forms.specs.Addresses.{IsIpv4, IsPrefixText};
+
+use crate::cutting::cut;
+use crate::decimals::octet;
+use route_values::{Addr, Prefix};
+
+/// How many bits an IPv4 address has.
+const WIDTH: u8 = 32;
+
+/// The IPv4 address that a text spells: four numbers up to 255 joined by dots, the highest byte first.
+pub fn ipv4(text: &[u8]) -> Option<u32>
+    ensures found { IfSome result (λ n. IsIpv4 text.now n) }
+    ensures only { IfSome result (λ n. (m : ℕ) → IsIpv4 text.now m → m ≡ n) }
+    ensures none { IfNone result ((m : ℕ) → IsIpv4 text.now m → ⊥) }
+{
+    let Some((a, after_a)) = leading_octet(text) else {
+        return None;
+    };
+    let Some((b, after_b)) = leading_octet(after_a) else {
+        return None;
+    };
+    let Some((c, after_c)) = leading_octet(after_b) else {
+        return None;
+    };
+    let Some(d) = octet(after_c) else {
+        return None;
+    };
+    Some(u32::from_be_bytes([a, b, c, d]))
+}
+
+/// The IPv4 prefix that a text spells: an address, `/` and a number of bits up to 32 past which no bit is set,
+/// or an address alone for all its 32 bits.
+pub fn ipv4_prefix(text: &[u8]) -> Option<Prefix>
+    ensures found { IfSome result (λ p. IsPrefixText text.now p) }
+    ensures only { IfSome result (λ p. (q : Block) → IsPrefixText text.now q → q ≡ p) }
+    ensures none { IfNone result ((q : Block) → IsPrefixText text.now q → ⊥) }
+{
+    match cut(text, b'/') {
+        Some((addr, len)) => masked(addr, len),
+        None => whole(text),
+    }
+}
+
+// The number up to 255 before the first dot, and what follows that dot.
+fn leading_octet(text: &[u8]) -> Option<(u8, &[u8])>
+    ensures found { IfSome result (λ parts. text.now ≡ decimal parts.0 ++ 46 ∷ parts.1.now) }
+    ensures only { IfSome result (λ parts. (n : ℕ) (tail : List ℕ) → n < 256 → text.now ≡ decimal n ++ 46 ∷ tail
+        → (n ≡ parts.0) × (tail ≡ parts.1.now)) }
+    ensures none { IfNone result ((n : ℕ) (tail : List ℕ) → n < 256 → text.now ≢ decimal n ++ 46 ∷ tail) }
+{
+    let Some((front, rest)) = cut(text, b'.') else {
+        return None;
+    };
+    let Some(number) = octet(front) else {
+        return None;
+    };
+    Some((number, rest))
+}
+
+// The prefix of an address and a number of bits.
+fn masked(addr: &[u8], len: &[u8]) -> Option<Prefix>
+    ensures found { IfSome result (λ p. IsPrefixText (addr.now ++ 47 ∷ len.now) p) }
+    ensures none { IfNone result ((n bits : ℕ) → IsIpv4 addr.now n → len.now ≡ decimal bits → IsPrefix (V4 n) bits → ⊥) }
+{
+    let Some(number) = ipv4(addr) else {
+        return None;
+    };
+    let Some(len) = octet(len) else {
+        return None;
+    };
+    Prefix::new(Addr::V4(number), len)
+}
+
+// The prefix of an address alone.
+fn whole(text: &[u8]) -> Option<Prefix>
+    ensures found { IfSome result (λ p. IsPrefixText text.now p) }
+    ensures none { IfNone result ((n : ℕ) → IsIpv4 text.now n → IsPrefix (V4 n) 32 → ⊥) }
+{
+    let Some(number) = ipv4(text) else {
+        return None;
+    };
+    Prefix::new(Addr::V4(number), WIDTH)
+}

@@ -1,0 +1,44 @@
+//! AS numbers as texts.
+ghost use Rattle.std.specs.Prelude.{◌≡◌, ◌≢◌, ◌+◌, ◌*◌, ◌<◌, ◌^◌, ◌++◌, ◌∷◌, ℕ, decimal, IfSome, IfNone};
+ghost use Rattle.text_forms.specs.Numbers.{IsAsn};
+
+use crate::cutting::cut;
+use crate::decimals::{half, number};
+
+/// The AS number from 1 to 2^32 - 1 that a text spells, as one decimal number or as its two 16-bit halves
+/// joined by a dot (RFC 5396, section 2: asplain, asdot+). A dot may stand in a number below 65,536 too.
+pub fn asn(text: &[u8]) -> Option<u32>
+    ensures found { IfSome result (λ n. IsAsn text.now n) }
+    ensures only { IfSome result (λ n. (m : ℕ) → IsAsn text.now m → m ≡ n) }
+    ensures none { IfNone result ((m : ℕ) → IsAsn text.now m → ⊥) }
+{
+    match cut(text, b'.') {
+        Some((high, low)) => dotted_asn(high, low),
+        None => plain_asn(text),
+    }
+}
+
+// An AS number of which the halves are given.
+fn dotted_asn(high: &[u8], low: &[u8]) -> Option<u32>
+    ensures found { IfSome result (λ n. IsAsn (high.now ++ 46 ∷ low.now) n) }
+    ensures none { IfNone result ((h l : ℕ) → h < 65536 → l < 65536 → high.now ≡ decimal h → low.now ≡ decimal l → h * 65536 + l ≡ 0) }
+{
+    let Some(high) = half(high) else {
+        return None;
+    };
+    let Some(low) = half(low) else {
+        return None;
+    };
+    let number = u32::from(high) * 65_536 + u32::from(low);
+    if number == 0 { None } else { Some(number) }
+}
+
+fn plain_asn(text: &[u8]) -> Option<u32>
+    ensures found { IfSome result (λ n. IsAsn text.now n) }
+    ensures none { IfNone result ((m : ℕ) → 0 < m → m < 2 ^ 32 → text.now ≢ decimal m) }
+{
+    let Some(number) = number(text) else {
+        return None;
+    };
+    if number == 0 { None } else { Some(number) }
+}

@@ -1,0 +1,167 @@
+//! Texts that are read and refused, and the lines and words of some bytes.
+use crate::{Line, asn, cut, first_line, first_word, half, ipv4, ipv4_prefix, is_blank, number, octet, words};
+use route_values::{Addr, Prefix};
+use std::test::Fail;
+
+const NUMBERS: [(&str, Option<u32>); 14] = [
+    ("0", Some(0)),
+    ("7", Some(7)),
+    ("10", Some(10)),
+    ("4294967295", Some(4_294_967_295)),
+    ("4294967296", None),
+    ("99999999999999999999999999", None),
+    ("00", None),
+    ("01", None),
+    ("+1", None),
+    ("-1", None),
+    ("", None),
+    (" 1", None),
+    ("1a", None),
+    ("0x1", None),
+];
+
+#[test]
+fn a_number_has_digits_alone_and_no_leading_zero(rt: HostRuntime) {
+    for (text, value) in NUMBERS {
+        assert_eq!(rt; number(text.as_bytes()), value, "{text}");
+    }
+    assert_eq!(rt; number(b"\xff"), None);
+}
+
+#[test]
+fn an_octet_ends_at_255_and_a_half_at_65535(rt: HostRuntime) {
+    assert_eq!(rt; octet(b"0"), Some(0));
+    assert_eq!(rt; octet(b"255"), Some(255));
+    assert_eq!(rt; octet(b"256"), None);
+    assert_eq!(rt; octet(b"007"), None);
+    assert_eq!(rt; half(b"65535"), Some(65_535));
+    assert_eq!(rt; half(b"65536"), None);
+    assert_eq!(rt; half(b"x"), None);
+}
+
+const ASNS: [(&str, Option<u32>); 18] = [
+    ("1", Some(1)),
+    ("65001", Some(65_001)),
+    ("4294967295", Some(4_294_967_295)),
+    ("4294967296", None),
+    ("0", None),
+    ("01", None),
+    ("+1", None),
+    ("1.10", Some(65_546)),
+    ("0.1", Some(1)),
+    ("1.0", Some(65_536)),
+    ("65535.65535", Some(4_294_967_295)),
+    ("0.0", None),
+    ("65536.1", None),
+    ("1.65536", None),
+    ("1.01", None),
+    ("1.", None),
+    (".1", None),
+    ("1.2.3", None),
+];
+
+#[test]
+fn an_as_number_is_plain_or_two_halves_and_never_zero(rt: HostRuntime) {
+    for (text, value) in ASNS {
+        assert_eq!(rt; asn(text.as_bytes()), value, "{text}");
+    }
+}
+
+const ADDRESSES: [(&str, Option<u32>); 13] = [
+    ("0.0.0.0", Some(0)),
+    ("192.0.2.1", Some(0xc000_0201)),
+    ("255.255.255.255", Some(0xffff_ffff)),
+    ("256.0.0.0", None),
+    ("0.0.0.256", None),
+    ("1.2.3", None),
+    ("1.2.3.", None),
+    ("1.2.3.4.5", None),
+    ("01.2.3.4", None),
+    ("1..2.3", None),
+    ("1.2.3.4 ", None),
+    ("16909060", None),
+    ("", None),
+];
+
+#[test]
+fn an_address_is_four_octets(rt: HostRuntime) {
+    for (text, value) in ADDRESSES {
+        assert_eq!(rt; ipv4(text.as_bytes()), value, "{text}");
+    }
+}
+
+const PREFIXES: [(&str, Option<(u32, u8)>); 14] = [
+    ("10.0.0.0/24", Some((0x0a00_0000, 24))),
+    ("10.0.0.0/7", Some((0x0a00_0000, 7))),
+    ("10.0.0.0/6", None),
+    ("10.0.0.1/24", None),
+    ("10.0.0.1/32", Some((0x0a00_0001, 32))),
+    ("10.0.0.1", Some((0x0a00_0001, 32))),
+    ("0.0.0.0/0", Some((0, 0))),
+    ("10.0.0.0/33", None),
+    ("10.0.0.0/08", None),
+    ("10.0.0.0/", None),
+    ("10.0.0/24", None),
+    ("10.0.0.0/24/24", None),
+    ("/24", None),
+    ("2001:db8::/32", None),
+];
+
+#[test]
+fn a_prefix_has_no_bit_past_its_length(rt: HostRuntime) {
+    for (text, value) in PREFIXES {
+        let prefix = value.and_then(|(number, len)| Prefix::new(Addr::V4(number), len));
+        assert_eq!(rt; prefix.is_some(), value.is_some(), "{text}");
+        assert_eq!(rt; ipv4_prefix(text.as_bytes()), prefix, "{text}");
+    }
+}
+
+#[test]
+fn a_text_is_cut_at_the_first_such_byte(rt: HostRuntime) {
+    assert!(rt; cut(b"1:2:3", b':') == Some((b"1".as_slice(), b"2:3".as_slice())));
+    assert!(rt; cut(b":", b':') == Some((b"".as_slice(), b"".as_slice())));
+    assert!(rt; cut(b"123", b':') == None);
+}
+
+#[test]
+fn blanks_part_words(rt: HostRuntime) -> Result<(), Fail> {
+    assert!(rt; is_blank(b' ') && is_blank(b'\t') && !is_blank(b'\r') && !is_blank(b'\n'));
+    let line = b" announce\t\troute  10.0.0.0/24 [a\rb ".as_slice();
+    let found = words(rt.alloc(), line)?;
+    let wanted = [b"announce".as_slice(), b"route", b"10.0.0.0/24", b"[a\rb"];
+    assert!(rt; found.as_slice() == wanted.as_slice());
+    assert!(rt; words(rt.alloc(), b" \t")?.is_empty());
+    assert!(rt; first_word(b"\tone two") == Some((b"one".as_slice(), b" two".as_slice())));
+    assert!(rt; first_word(b"") == None);
+    Ok(())
+}
+
+#[test]
+fn lines_end_with_a_line_feed_and_blank_ones_are_passed_over(rt: HostRuntime) {
+    let bytes = b"one\r\n\n \t \r\n\r\r\n two \ntwo\r\r\nthree".as_slice();
+    let wanted = [b"one".as_slice(), b"\r", b" two ", b"two\r"];
+    let mut rest = bytes;
+    for text in wanted {
+        let found = first_line(rest);
+        assert!(rt; found.is_some_and(|(line, _)| line == Line::Text(text)));
+        rest = found.map_or(rest, |(_, after)| after);
+    }
+    assert_eq!(rt; rest, b"three".as_slice());
+    assert!(rt; first_line(rest) == None);
+}
+
+#[test]
+fn a_line_has_65535_bytes_at_most(rt: HostRuntime) -> Result<(), Fail> {
+    let mut bytes = vec![in rt.alloc(); b'x'; 65_535]?;
+    bytes.push(b'\n')?;
+    assert!(rt; first_line(&bytes) == Some((Line::Text(&bytes[..65_535]), b"".as_slice())));
+    bytes[65_534] = b'\r';
+    assert!(rt; first_line(&bytes) == Some((Line::Text(&bytes[..65_534]), b"".as_slice())));
+    bytes[65_535] = b'\r';
+    bytes.push(b'\n')?;
+    assert!(rt; first_line(&bytes) == Some((Line::TooLong, b"".as_slice())));
+    let mut blank = vec![in rt.alloc(); b' '; 65_536]?;
+    blank.push(b'\n')?;
+    assert!(rt; first_line(&blank) == None);
+    Ok(())
+}
