@@ -1,0 +1,4 @@
+pub mod CommandLemmas
+pub mod SlotLemmas
+pub mod TookLemmas
+pub mod WordLemmas

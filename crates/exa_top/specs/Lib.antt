@@ -1,0 +1,6 @@
+pub mod Commands
+pub mod Answers
+pub mod Encoding
+pub mod Words
+pub mod Slots
+pub mod Messages

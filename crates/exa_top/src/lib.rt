@@ -1,0 +1,17 @@
+//! The text commands of exabgpd, from bytes to bytes.
+//!
+//! `exabgp_text` runs the command that its words spell: it reads command lines from a source and writes replies and
+//! BGP UPDATE messages (RFC 4271, section 4.3) to a sink. The crate stands on `outside` (sources, sinks, files),
+//! `text_forms` (lines and words), `update_codec` (messages) and `route_values`. It holds no session and starts no
+//! thread, and it packs one route a message.
+#![tactic(auto)]
+
+mod answering;
+mod command;
+mod status;
+mod table;
+mod words;
+
+pub use status::Status;
+pub use words::{TextCommand, text_command};
+pub use answering::answer_all;

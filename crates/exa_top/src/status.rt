@@ -1,0 +1,44 @@
+//! How a command ends.
+
+/// How a command ended. The number is the exit status of the program.
+#[derive(Clone, Copy, Debug, PartialEq, Eq)]
+pub enum Status {
+    /// The input was read to its end and everything was written.
+    Ok,
+    /// The words spell no command.
+    Usage,
+    /// A read of the input failed.
+    ReadFault,
+    /// A write to the output failed.
+    WriteFault,
+    /// Memory ran out.
+    NoMemory,
+    /// 2^40 bytes were read and the input's end wasn't met.
+    InputLong,
+}
+
+impl Status {
+    /// The exit status.
+    pub fn number(self) -> u8 {
+        match self {
+            Status::Ok => 0,
+            Status::Usage => 2,
+            Status::ReadFault => 6,
+            Status::WriteFault => 7,
+            Status::NoMemory => 9,
+            Status::InputLong => 10,
+        }
+    }
+
+    /// The text for standard error, or None where all went well.
+    pub fn text(self) -> Option<&'static str> {
+        match self {
+            Status::Ok => None,
+            Status::Usage => Some("usage"),
+            Status::ReadFault => Some("read fault"),
+            Status::WriteFault => Some("write fault"),
+            Status::NoMemory => Some("no memory"),
+            Status::InputLong => Some("input too long"),
+        }
+    }
+}

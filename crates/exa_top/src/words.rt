@@ -1,0 +1,93 @@
+//! The words of a command.
+ghost use Rattle.std.specs.Prelude.{◌≡◌, [], ◌∷◌, codes, map, IfSome, IfNone};
+ghost use Rattle.route_values.specs.declared.settings.Side.{Side as Ends};
+ghost use Rattle.exa_top.specs.Words.{IsCommand, IsEncode};
+ghost use Rattle.exa_top.specs.declared.words.TextCommand.{TextCommand as Spelled};
+
+use crate::command::is;
+use route_values::{Addr, Side};
+use text_forms::{asn, ipv4};
+
+/// A text command.
+#[derive(Clone, Copy, Debug, PartialEq, Eq)]
+pub enum TextCommand {
+    /// `encode LOCAL_AS PEER_AS LOCAL_IP`: a session with these ends.
+    Encode(Side),
+    /// `--help`
+    Help,
+    /// `--version`
+    Version,
+}
+
+/// The command that the words spell, or None where they spell none.
+pub fn text_command(words: &[&str]) -> Option<TextCommand>
+    ensures found { IfSome result (λ spelled. IsCommand (map (λ w. w.now) words.now) spelled) }
+    ensures none { IfNone result ((spelled : Spelled) → IsCommand (map (λ w. w.now) words.now) spelled → ⊥) }
+{
+    let Some((name, operands)) = words.split_first() else {
+        return None;
+    };
+    if is(name.as_bytes(), b"encode") {
+        return encode_of(operands);
+    }
+    if !operands.is_empty() {
+        return None;
+    }
+    if is(name.as_bytes(), b"--help") {
+        return Some(TextCommand::Help);
+    }
+    if is(name.as_bytes(), b"--version") {
+        return Some(TextCommand::Version);
+    }
+    None
+}
+
+fn encode_of(operands: &[&str]) -> Option<TextCommand>
+    ensures found { IfSome result (λ spelled. IsCommand (codes "encode" ∷ map (λ w. w.now) operands.now) spelled) }
+    ensures none { IfNone result ((spelled : Spelled) → IsCommand (codes "encode" ∷ map (λ w. w.now) operands.now) spelled → ⊥) }
+{
+    match side_of(operands) {
+        Some(side) => Some(TextCommand::Encode(side)),
+        None => None,
+    }
+}
+
+// `LOCAL_AS PEER_AS LOCAL_IP`
+fn side_of(operands: &[&str]) -> Option<Side>
+    ensures found { IfSome result (λ side. IsEncode (codes "encode" ∷ map (λ w. w.now) operands.now) side) }
+    ensures none { IfNone result ((side : Ends) → IsEncode (codes "encode" ∷ map (λ w. w.now) operands.now) side → ⊥) }
+{
+    let Some((local_as, others)) = operands.split_first() else {
+        return None;
+    };
+    let Some((peer_as, others)) = others.split_first() else {
+        return None;
+    };
+    let Some((local, others)) = others.split_first() else {
+        return None;
+    };
+    if !others.is_empty() {
+        return None;
+    }
+    side_from(local_as, peer_as, local)
+}
+
+fn side_from(local_as: &str, peer_as: &str, local: &str) -> Option<Side>
+    ensures found { IfSome result (λ side. IsEncode (codes "encode" ∷ local_as.now ∷ peer_as.now ∷ local.now ∷ []) side) }
+    ensures none { IfNone result ((side : Ends) → IsEncode (codes "encode" ∷ local_as.now ∷ peer_as.now ∷ local.now ∷ []) side → ⊥) }
+{
+    let Some(local_as) = asn(local_as.as_bytes()) else {
+        return None;
+    };
+    let Some(peer_as) = asn(peer_as.as_bytes()) else {
+        return None;
+    };
+    let Some(local) = ipv4(local.as_bytes()) else {
+        return None;
+    };
+    Some(Side {
+        local: Addr::V4(local),
+        local_as,
+        peer_as,
+    })
+}
