@@ -28,7 +28,7 @@ lacks_decimal byte n unlike small =
 
 -- a text is cut at the first such byte in one way
 pub first_same : (byte : ℕ) (front back front' back' : List ℕ) → Lacks byte front → Lacks byte front'
-  → front ++ byte ∷ back ≡ front' ++ byte ∷ back' → (front ≡ front') × (back ≡ back')
+    → front ++ byte ∷ back ≡ front' ++ byte ∷ back' → (front ≡ front') × (back ≡ back')
 first_same byte [] back [] back' lacks lacks' same = (refl, cc)
 first_same byte [] back (c ∷ front') back' lacks lacks' same = absurd (lacks'.0 (cc))
 first_same byte (c ∷ front) back [] back' lacks lacks' same = absurd (lacks.0 (cc))

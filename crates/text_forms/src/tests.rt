@@ -1,5 +1,7 @@
 //! Texts that are read and refused, and the lines and words of some bytes.
-use crate::{Line, asn, cut, first_line, first_word, half, ipv4, ipv4_prefix, is_blank, number, octet, words};
+use crate::{
+    Line, asn, cut, first_line, first_word, half, ipv4, ipv4_prefix, is_blank, number, octet, words,
+};
 use route_values::{Addr, Prefix};
 use std::test::Fail;
 

@@ -15,7 +15,7 @@ pub returns-in-Some-clause-none : goal.returns-in-Some-clause-none
 returns-in-Some-clause-none c =
     none_map c.masked.result _ _
     (λ none block is. no_masked c.in-Some.addr.now c.in-Some.len.now block (lacks_from_all 47 _ c.in-Some.ensures.first) none
-        (subst (λ (text : List ℕ). IsPrefixText text block) c.in-Some.ensures.found is))
+    (subst (λ (text : List ℕ). IsPrefixText text block) c.in-Some.ensures.found is))
     c.masked.ensures.none
 
 pub returns-in-None-clause-only : goal.returns-in-None-clause-only

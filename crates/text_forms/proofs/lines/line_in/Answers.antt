@@ -15,7 +15,7 @@ returns-then-part-gt-MAX_LINE c =
     let not_blank = ap (list_all is_blank_byte) (sym c.trimmed-text.ensures) ∙ sym c.is_blank_line.ensures ∙ c.if-is_blank_line.false in
     sym (line_or_none-long c.args.part.now not_blank (omega arith))
 
-pub returns-else-part-gt-MAX_LINE : goal.returns-else-part-gt-MAX_LINE
-returns-else-part-gt-MAX_LINE c =
+pub returns : goal.returns
+returns c =
     let not_blank = ap (list_all is_blank_byte) (sym c.trimmed-text.ensures) ∙ sym c.is_blank_line.ensures ∙ c.if-is_blank_line.false in
     ap (λ text. Text text ∷ []) c.trimmed-text.ensures ∙ sym (line_or_none-text c.args.part.now not_blank (omega arith))

@@ -10,5 +10,7 @@ returns-then-len-eq0-clause-none c =
 
 pub returns-else-len-eq0-clause-found : goal.returns-else-len-eq0-clause-found
 returns-else-len-eq0-clause-found c =
-    let word = words_of-first c.without_blanks-rest.result.now c.word_len-len.result c.word_len-len.ensures.word c.word_len-len.ensures.end (omega arith) c.word_len-len.ensures.within in
+    let rest = c.without_blanks-rest.result.now in
+    let word = words_of-first rest c.word_len-len.result c.word_len-len.ensures.word c.word_len-len.ensures.end (omega arith)
+    c.word_len-len.ensures.within in
     rw (c.split_at.ensures.front, c.split_at.ensures.back) (sym c.without_blanks-rest.ensures.same ∙ word)
