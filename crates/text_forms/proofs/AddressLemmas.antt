@@ -1,5 +1,5 @@
 -- Addresses and prefixes as texts.
-use Rattle.std.proofs.Common.{ℕ, ◌≡◌, ◌≢◌, ◌<◌, ◌≤◌, ◌^◌, List, ◌∷◌, ◌++◌, All, decimal, arith, ap, sym, ◌∙◌, refl, subst, inl, inr}
+use Rattle.std.proofs.Common.{ℕ, ◌≡◌, ◌≢◌, ◌<◌, ◌≤◌, List, ◌∷◌, ◌++◌, All, decimal, arith, ap, sym, ◌∙◌, refl, subst, inl, inr}
 use Rattle.route_values.specs.declared.addr.Addr.{Addr}
 use Rattle.route_values.specs.declared.addr.Addr.TheVariants.{V4}
 use Rattle.route_values.specs.Prefix.{Block, IsPrefix}
@@ -20,14 +20,16 @@ byte_one byte other small other_small same = number_one (decimal byte) byte othe
 pub leading_one : (text : List ℕ) (other number : ℕ) (tail tail' : List ℕ) → other < 256 → number < 256
     → text ≡ decimal other ++ 46 ∷ tail → text ≡ decimal number ++ 46 ∷ tail' → (other ≡ number) × (tail ≡ tail')
 leading_one text other number tail tail' small small' is is' =
-    let parts = first_same 46 (decimal other) tail (decimal number) tail' (dotless other small) (dotless number small') (sym is ∙ is') in
+    let parts = first_same 46 (decimal other) tail (decimal number) tail' (dotless other small) (dotless number small')
+    (sym is ∙ is') in
     (byte_one other number small small' parts.0, parts.1)
 
 -- the text before the first dot, where a number stands there
 pub leading_cut : (text front rest : List ℕ) (number : ℕ) (tail : List ℕ) → text ≡ front ++ 46 ∷ rest
     → All (λ b. b ≢ 46) front → number < 256 → text ≡ decimal number ++ 46 ∷ tail → front ≡ decimal number
 leading_cut text front rest number tail cut lacks small is =
-    (first_same 46 front rest (decimal number) tail (lacks_from_all 46 front lacks) (dotless number small) (sym cut ∙ is)).0
+    (first_same 46 front rest (decimal number) tail (lacks_from_all 46 front lacks) (dotless number small)
+    (sym cut ∙ is)).0
 
 pub leading_none : (text : List ℕ) (number : ℕ) (tail : List ℕ) → All (λ b. b ≢ 46) text
     → text ≡ decimal number ++ 46 ∷ tail → ⊥
@@ -71,7 +73,8 @@ same_block block block' addrs lens = block_of-same block.addr block'.addr block.
 masked_one : (text : List ℕ) (other number bits bits' : ℕ) → bits ≤ 32 → bits' ≤ 32
     → IsMaskedText text other bits → IsMaskedText text number bits' → (other ≡ number) × (bits ≡ bits')
 masked_one text other number bits bits' short short' (addr, is, text_is) (addr', is', text_is') =
-    let parts = first_same 47 addr _ addr' _ (ipv4_slashless addr other is) (ipv4_slashless addr' number is') (sym text_is ∙ text_is') in (
+    let parts = first_same 47 addr _ addr' _ (ipv4_slashless addr other is) (ipv4_slashless addr' number is')
+    (sym text_is ∙ text_is') in (
       ipv4_one addr other number is (subst (λ (part : List ℕ). IsIpv4 part number) (sym parts.0) is'),
       byte_one bits bits' (omega arith) (omega arith) parts.1,
     )
@@ -84,7 +87,8 @@ short_of : (block : Block) (number : ℕ) → block.addr ≡ V4 number → IsPre
 short_of block number is canonical = (subst (λ (addr : Addr). IsPrefix addr block.len) is canonical).short
 
 -- a text spells one prefix at most
-pub prefix_one : (text : List ℕ) (block block' : Block) → IsPrefixText text block → IsPrefixText text block' → block ≡ block'
+pub prefix_one : (text : List ℕ) (block block' : Block) → IsPrefixText text block
+    → IsPrefixText text block' → block ≡ block'
 prefix_one text block block' (other, is, canonical, inl masked) (number, is', canonical', inl masked') =
     let short = short_of block other is canonical in
     let short' = short_of block' number is' canonical' in
@@ -95,14 +99,16 @@ prefix_one text block block' (other, is, canonical, inl masked) (number, is', ca
 prefix_one text block block' (other, is, canonical, inr whole) (number, is', canonical', inl masked') =
     absurd (masked_or_whole text number other block'.len masked' whole.0)
 prefix_one text block block' (other, is, canonical, inr whole) (number, is', canonical', inr whole') =
-    same_block block block' (is ∙ ap V4 (ipv4_one text other number whole.0 whole'.0) ∙ sym is') (whole.1 ∙ sym whole'.1)
+    let numbers = ipv4_one text other number whole.0 whole'.0 in
+    same_block block block' (is ∙ ap V4 numbers ∙ sym is') (whole.1 ∙ sym whole'.1)
 
 -- no prefix is spelled where none is before and behind the first slash
 pub no_masked : (addr len : List ℕ) (block : Block) → Lacks 47 addr
     → ((number bits : ℕ) → IsIpv4 addr number → len ≡ decimal bits → IsPrefix (V4 number) bits → ⊥)
     → IsPrefixText (addr ++ 47 ∷ len) block → ⊥
 no_masked addr len block lacks none (number, is, canonical, inl masked) =
-    let parts = first_same 47 addr len masked.0 (decimal block.len) lacks (ipv4_slashless masked.0 number masked.1) masked.2 in
+    let parts = first_same 47 addr len masked.0 (decimal block.len) lacks (ipv4_slashless masked.0 number masked.1)
+    masked.2 in
     none number block.len (subst (λ (part : List ℕ). IsIpv4 part number) (sym parts.0) masked.1) parts.1
     (subst (λ (addr : Addr). IsPrefix addr block.len) is canonical)
 no_masked addr len block lacks none (number, is, canonical, inr whole) =
@@ -114,4 +120,5 @@ pub no_whole : (text : List ℕ) (block : Block) → Lacks 47 text
 no_whole text block lacks none (number, is, canonical, inl masked) =
     lacks_none 47 masked.0 (decimal block.len) (subst (Lacks 47) masked.2 lacks)
 no_whole text block lacks none (number, is, canonical, inr whole) =
-    none number whole.0 (subst (λ (bits : ℕ). IsPrefix (V4 number) bits) whole.1 (subst (λ (addr : Addr). IsPrefix addr block.len) is canonical))
+    let spelled = subst (λ (addr : Addr). IsPrefix addr block.len) is canonical in
+    none number whole.0 (subst (λ (bits : ℕ). IsPrefix (V4 number) bits) whole.1 spelled)

@@ -8,16 +8,20 @@ dotless : (number : ℕ) → number < 2 ^ 32 → Lacks 46 (decimal number)
 dotless number small = lacks_decimal 46 number dot_no_digit (omega arith)
 
 -- no number's text has a dot
-dotted_or_plain : (text : List ℕ) (other number : ℕ) → other < 2 ^ 32 → text ≡ decimal other → IsDottedAsn text number → ⊥
+dotted_or_plain : (text : List ℕ) (other number : ℕ) → other < 2 ^ 32 → text ≡ decimal other
+    → IsDottedAsn text number → ⊥
 dotted_or_plain text other number small plain dotted =
-    lacks_none 46 (decimal dotted.high) (decimal dotted.low) (subst (Lacks 46) (sym plain ∙ dotted.text_is) (dotless other small))
+    lacks_none 46 (decimal dotted.high) (decimal dotted.low)
+    (subst (Lacks 46) (sym plain ∙ dotted.text_is) (dotless other small))
 
 dotted_one : (text : List ℕ) (other number : ℕ) → IsDottedAsn text other → IsDottedAsn text number → other ≡ number
 dotted_one text other number is also =
     let parts = first_same 46 (decimal is.high) _ (decimal also.high) _ (dotless is.high (omega (arith, is.high_small)))
     (dotless also.high (omega (arith, also.high_small))) (sym is.text_is ∙ also.text_is) in
-    let high = number_one _ is.high also.high (omega (arith, is.high_small)) (omega (arith, also.high_small)) refl parts.0 in
-    let low = number_one _ is.low also.low (omega (arith, is.low_small)) (omega (arith, also.low_small)) refl parts.1 in
+    let high = number_one _ is.high also.high (omega (arith, is.high_small)) (omega (arith, also.high_small))
+    refl parts.0 in
+    let low = number_one _ is.low also.low (omega (arith, is.low_small)) (omega (arith, also.low_small))
+    refl parts.1 in
     omega (arith, is.value, also.value, high, low)
 
 -- a text spells one AS number at most

@@ -17,7 +17,8 @@ pub same_number : (other number : ℕ) (text : List ℕ) → number < 2 ^ 32 →
 same_number other number text small is parses =
     parsed_same other number (parse-decimal 32 number text (parsed other) small (omega arith) is parses)
 
-pub no_fault : (number : ℕ) (text : List ℕ) → number < 2 ^ 32 → text ≡ decimal number → ParsesUnsigned 32 10 text refused → ⊥
+pub no_fault : (number : ℕ) (text : List ℕ) → number < 2 ^ 32 → text ≡ decimal number
+    → ParsesUnsigned 32 10 text refused → ⊥
 no_fault number text small is parses =
     let no : refused ≡ parsed number = parse-decimal 32 number text refused small (omega arith) is parses in cc
 

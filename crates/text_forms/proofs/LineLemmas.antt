@@ -1,18 +1,20 @@
 -- The lines of a stream, a part at a time.
-use Rattle.std.proofs.Common.{ℕ, ◌≡◌, ◌≢◌, ◌<◌, ◌≤◌, ◌==◌, Bool, true, false, cond, List, [], ◌∷◌, ◌++◌, length, ap, ◌∙◌, refl, inl, inr, lt-ltb, le-ltb}
+use Rattle.std.proofs.Common.{ℕ, ◌≡◌, ◌≢◌, ◌<◌, ◌≤◌, ◌==◌, true, false, cond, List, [], ◌∷◌, ◌++◌, length, ap, ◌∙◌, refl, inl, inr, lt-ltb, le-ltb}
 use Rattle.std.specs.List.{flat_map}
 use Rattle.std.proofs.lemmas.Bool.Decides.{eqb_tells}
-use Rattle.text_forms.specs.Lines.{Line, Text, TooLong, onto_first, ended_parts, without_return, is_blank_part, line_of, line_or_none, lines}
+use Rattle.text_forms.specs.Lines.{Text, TooLong, onto_first, ended_parts, without_return, is_blank_part, line_of, line_or_none, lines}
 use Rattle.text_forms.proofs.CutLemmas.{Lacks}
 
 differs : (left right : ℕ) → left ≢ right → (left == right) ≡ false
-differs left right unlike = elim (eqb_tells left right) [ inl equal ↦ absurd (unlike equal.1) | inr unequal ↦ unequal.0 ]
+differs left right unlike =
+    elim (eqb_tells left right) [ inl equal ↦ absurd (unlike equal.1) | inr unequal ↦ unequal.0 ]
 
 -- the first part ends at the first line feed
 ended_parts-line : (part rest : List ℕ) → Lacks 10 part → ended_parts (part ++ 10 ∷ rest) ≡ part ∷ ended_parts rest
 ended_parts-line [] rest lacks = refl
 ended_parts-line (b ∷ part) rest lacks =
-    ap (λ test. cond test ([] ∷ ended_parts (part ++ 10 ∷ rest)) (onto_first b (ended_parts (part ++ 10 ∷ rest)))) (differs b 10 lacks.0)
+    ap (λ test. cond test ([] ∷ ended_parts (part ++ 10 ∷ rest)) (onto_first b (ended_parts (part ++ 10 ∷ rest))))
+    (differs b 10 lacks.0)
     ∙ ap (onto_first b) (ended_parts-line part rest lacks.1)
 
 ended_parts-none : (rest : List ℕ) → Lacks 10 rest → ended_parts rest ≡ []
@@ -38,7 +40,8 @@ pub without_return-end : (front : List ℕ) → without_return (front ++ 13 ∷ 
 without_return-end [] = refl
 without_return-end (b ∷ front) = without_return-tail b 13 front front (without_return-end front)
 
-pub without_return-other : (front : List ℕ) (last : ℕ) → last ≢ 13 → without_return (front ++ last ∷ []) ≡ front ++ last ∷ []
+pub without_return-other : (front : List ℕ) (last : ℕ) → last ≢ 13
+    → without_return (front ++ last ∷ []) ≡ front ++ last ∷ []
 without_return-other [] last other = ap (λ test. cond test [] (last ∷ [])) (differs last 13 other)
 without_return-other (b ∷ front) last other =
     without_return-tail b last front (front ++ last ∷ []) (without_return-other front last other)
@@ -47,7 +50,8 @@ pub line_or_none-blank : (part : List ℕ) → is_blank_part part ≡ true → l
 unfolding line_or_none
 line_or_none-blank part blank = ap (λ test. cond test [] (line_of part ∷ [])) blank
 
-pub line_or_none-long : (part : List ℕ) → is_blank_part part ≡ false → 65535 < length part → line_or_none part ≡ TooLong ∷ []
+pub line_or_none-long : (part : List ℕ) → is_blank_part part ≡ false → 65535 < length part
+    → line_or_none part ≡ TooLong ∷ []
 unfolding line_or_none
 line_or_none-long part not_blank long =
     ap (λ test. cond test [] (line_of part ∷ [])) not_blank

@@ -12,7 +12,8 @@ use Rattle.text_forms.specs.Words.{begins_word, words_of}
 abbrev words_with : ℕ → Bool → Bool → List (List ℕ) → List (List ℕ)
 words_with b blank begins words = cond blank words (cond begins (onto_first b words) ((b ∷ []) ∷ words))
 
-words_of-step : (b : ℕ) (bs : List ℕ) → words_of (b ∷ bs) ≡ words_with b (is_blank_byte b) (begins_word bs) (words_of bs)
+words_of-step : (b : ℕ) (bs : List ℕ)
+    → words_of (b ∷ bs) ≡ words_with b (is_blank_byte b) (begins_word bs) (words_of bs)
 unfolding words_of
 words_of-step b bs = refl
 
@@ -36,18 +37,22 @@ words_of-word b [] rest is_word ends =
 words_of-word b (c ∷ word) rest is_word ends =
     words_of-step b (c ∷ word ++ rest)
     ∙ ap (λ test. words_with b test (begins_word (c ∷ word ++ rest)) (words_of (c ∷ word ++ rest))) is_word.0
-    ∙ ap (λ test. cond (not test) (onto_first b (words_of (c ∷ word ++ rest))) ((b ∷ []) ∷ words_of (c ∷ word ++ rest))) is_word.1.0
+    ∙ ap (λ test. cond (not test) (onto_first b (words_of (c ∷ word ++ rest))) ((b ∷ []) ∷ words_of (c ∷ word ++ rest)))
+    is_word.1.0
     ∙ ap (onto_first b) (words_of-word c word rest is_word.1 ends)
 
-pub words_of-none : (rest : List ℕ) → begins_word rest ≡ false → (0 < length rest → begins_word rest ≡ true) → words_of rest ≡ []
+pub words_of-none : (rest : List ℕ) → begins_word rest ≡ false
+    → (0 < length rest → begins_word rest ≡ true) → words_of rest ≡ []
 words_of-none [] ends begins = words_of-nil
 words_of-none (b ∷ bs) ends begins = absurd (false≢true (sym ends ∙ begins (omega arith)))
 
-word_then : (word rest : List ℕ) → IsWord word → 0 < length word → begins_word rest ≡ false → words_of (word ++ rest) ≡ word ∷ words_of rest
+word_then : (word rest : List ℕ) → IsWord word → 0 < length word → begins_word rest ≡ false
+    → words_of (word ++ rest) ≡ word ∷ words_of rest
 word_then [] rest is_word some ends = absurd (omega (arith, some))
 word_then (b ∷ word) rest is_word some ends = words_of-word b word rest is_word ends
 
-pub words_of-first : (text : List ℕ) (len : ℕ) → All (λ b. is_blank_byte b ≡ false) (take len text) → begins_word (drop len text) ≡ false
+pub words_of-first : (text : List ℕ) (len : ℕ) → All (λ b. is_blank_byte b ≡ false) (take len text)
+    → begins_word (drop len text) ≡ false
     → 0 < len → len ≤ length text → words_of text ≡ take len text ∷ words_of (drop len text)
 words_of-first text len is_word ends some within =
     ap words_of (sym (take-append-drop len text))

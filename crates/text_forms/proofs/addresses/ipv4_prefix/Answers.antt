@@ -8,7 +8,8 @@ use Rattle.text_forms.proofs.addresses.ipv4_prefix.Goals as goal
 pub returns-in-Some-clause-only : goal.returns-in-Some-clause-only
 returns-in-Some-clause-only c =
     some_map c.masked.result _ _
-    (λ p is q also. prefix_one c.args.text.now q p also (subst (λ (text : List ℕ). IsPrefixText text p) (sym c.in-Some.ensures.found) is))
+    (λ block is other also. prefix_one c.args.text.now other block also
+    (subst (λ (text : List ℕ). IsPrefixText text block) (sym c.in-Some.ensures.found) is))
     c.masked.ensures.found
 
 pub returns-in-Some-clause-none : goal.returns-in-Some-clause-none
@@ -20,7 +21,7 @@ returns-in-Some-clause-none c =
 
 pub returns-in-None-clause-only : goal.returns-in-None-clause-only
 returns-in-None-clause-only c =
-    some_map c.whole.result _ _ (λ p is q also. prefix_one c.args.text.now q p also is) c.whole.ensures.found
+    some_map c.whole.result _ _ (λ block is other also. prefix_one c.args.text.now other block also is) c.whole.ensures.found
 
 pub returns-in-None-clause-none : goal.returns-in-None-clause-none
 returns-in-None-clause-none c =
