@@ -1,5 +1,5 @@
 -- Texts that are cut at a byte.
-use Rattle.std.proofs.Common.{ℕ, ◌≡◌, ◌≢◌, ◌<◌, ◌^◌, Bool, true, List, [], ◌∷◌, ◌++◌, All, decimal, ap, sym, ◌∙◌, refl, subst}
+use Rattle.std.proofs.Common.{ℕ, ◌≡◌, ◌≢◌, ◌<◌, ◌^◌, true, List, [], ◌∷◌, ◌++◌, All, decimal, ap, sym, ◌∙◌, refl}
 use Rattle.std.specs.List.{AllByRecursion}
 use Rattle.std.specs.Str.{all_ascii_digits}
 use Rattle.std.specs.Char.{is_ascii_digit}
@@ -15,7 +15,8 @@ Lacks byte text = AllByRecursion (λ b. b ≢ byte) text
 pub lacks_from_all : (byte : ℕ) (text : List ℕ) → All (λ b. b ≢ byte) text → Lacks byte text
 lacks_from_all byte text all = recursion_from_All (λ b. b ≢ byte) text all
 
-lacks_digits : (byte : ℕ) (digits : List ℕ) → (is_ascii_digit byte ≡ true → ⊥) → all_ascii_digits digits ≡ true → Lacks byte digits
+lacks_digits : (byte : ℕ) (digits : List ℕ) → (is_ascii_digit byte ≡ true → ⊥) → all_ascii_digits digits ≡ true
+    → Lacks byte digits
 lacks_digits byte [] unlike all_digits = tt
 lacks_digits byte (digit ∷ digits) unlike all_digits =
     let parts = and_parts (is_ascii_digit digit) (all_ascii_digits digits) all_digits in
@@ -28,7 +29,7 @@ lacks_decimal byte n unlike small =
 
 -- a text is cut at the first such byte in one way
 pub first_same : (byte : ℕ) (front back front' back' : List ℕ) → Lacks byte front → Lacks byte front'
-  → front ++ byte ∷ back ≡ front' ++ byte ∷ back' → (front ≡ front') × (back ≡ back')
+    → front ++ byte ∷ back ≡ front' ++ byte ∷ back' → (front ≡ front') × (back ≡ back')
 first_same byte [] back [] back' lacks lacks' same = (refl, cc)
 first_same byte [] back (c ∷ front') back' lacks lacks' same = absurd (lacks'.0 (cc))
 first_same byte (c ∷ front) back [] back' lacks lacks' same = absurd (lacks.0 (cc))

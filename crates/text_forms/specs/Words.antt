@@ -12,4 +12,5 @@ begins_word (b ∷ bs) = not (is_blank_byte b)
 unfoldable pub words_of : List ℕ → List (List ℕ)
 words_of [] = []
 words_of (b ∷ bs) =
-    if is_blank_byte b then words_of bs else (if begins_word bs then onto_first b (words_of bs) else (b ∷ []) ∷ words_of bs)
+    if is_blank_byte b then words_of bs
+    else (if begins_word bs then onto_first b (words_of bs) else (b ∷ []) ∷ words_of bs)

@@ -13,9 +13,9 @@ const WIDTH: u8 = 32;
 
 /// The IPv4 address that a text spells: four numbers up to 255 joined by dots, the highest byte first.
 pub fn ipv4(text: &[u8]) -> Option<u32>
-    ensures found { IfSome result (λ n. IsIpv4 text.now n) }
-    ensures only { IfSome result (λ n. (m : ℕ) → IsIpv4 text.now m → m ≡ n) }
-    ensures none { IfNone result ((m : ℕ) → IsIpv4 text.now m → ⊥) }
+    ensures found { IfSome result (λ number. IsIpv4 text.now number) }
+    ensures only { IfSome result (λ number. (other : ℕ) → IsIpv4 text.now other → other ≡ number) }
+    ensures none { IfNone result ((other : ℕ) → IsIpv4 text.now other → ⊥) }
 {
     let Some((a, after_a)) = leading_octet(text) else {
         return None;
@@ -35,9 +35,9 @@ pub fn ipv4(text: &[u8]) -> Option<u32>
 /// The IPv4 prefix that a text spells: an address, `/` and a number of bits up to 32 past which no bit is set,
 /// or an address alone for all its 32 bits.
 pub fn ipv4_prefix(text: &[u8]) -> Option<Prefix>
-    ensures found { IfSome result (λ p. IsPrefixText text.now p) }
-    ensures only { IfSome result (λ p. (q : Block) → IsPrefixText text.now q → q ≡ p) }
-    ensures none { IfNone result ((q : Block) → IsPrefixText text.now q → ⊥) }
+    ensures found { IfSome result (λ prefix. IsPrefixText text.now prefix) }
+    ensures only { IfSome result (λ prefix. (other : Block) → IsPrefixText text.now other → other ≡ prefix) }
+    ensures none { IfNone result ((other : Block) → IsPrefixText text.now other → ⊥) }
 {
     match cut(text, b'/') {
         Some((addr, len)) => masked(addr, len),
@@ -48,9 +48,10 @@ pub fn ipv4_prefix(text: &[u8]) -> Option<Prefix>
 // The number up to 255 before the first dot, and what follows that dot.
 fn leading_octet(text: &[u8]) -> Option<(u8, &[u8])>
     ensures found { IfSome result (λ parts. text.now ≡ decimal parts.0 ++ 46 ∷ parts.1.now) }
-    ensures only { IfSome result (λ parts. (n : ℕ) (tail : List ℕ) → n < 256 → text.now ≡ decimal n ++ 46 ∷ tail
-        → (n ≡ parts.0) × (tail ≡ parts.1.now)) }
-    ensures none { IfNone result ((n : ℕ) (tail : List ℕ) → n < 256 → text.now ≢ decimal n ++ 46 ∷ tail) }
+    ensures only { IfSome result (λ parts. (number : ℕ) (tail : List ℕ) → number < 256
+        → text.now ≡ decimal number ++ 46 ∷ tail → (number ≡ parts.0) × (tail ≡ parts.1.now)) }
+    ensures none { IfNone result ((number : ℕ) (tail : List ℕ) → number < 256
+        → text.now ≢ decimal number ++ 46 ∷ tail) }
 {
     let Some((front, rest)) = cut(text, b'.') else {
         return None;
@@ -63,8 +64,9 @@ fn leading_octet(text: &[u8]) -> Option<(u8, &[u8])>
 
 // The prefix of an address and a number of bits.
 fn masked(addr: &[u8], len: &[u8]) -> Option<Prefix>
-    ensures found { IfSome result (λ p. IsPrefixText (addr.now ++ 47 ∷ len.now) p) }
-    ensures none { IfNone result ((n bits : ℕ) → IsIpv4 addr.now n → len.now ≡ decimal bits → IsPrefix (V4 n) bits → ⊥) }
+    ensures found { IfSome result (λ prefix. IsPrefixText (addr.now ++ 47 ∷ len.now) prefix) }
+    ensures none { IfNone result ((number bits : ℕ) → IsIpv4 addr.now number → len.now ≡ decimal bits
+        → IsPrefix (V4 number) bits → ⊥) }
 {
     let Some(number) = ipv4(addr) else {
         return None;
@@ -77,8 +79,8 @@ fn masked(addr: &[u8], len: &[u8]) -> Option<Prefix>
 
 // The prefix of an address alone.
 fn whole(text: &[u8]) -> Option<Prefix>
-    ensures found { IfSome result (λ p. IsPrefixText text.now p) }
-    ensures none { IfNone result ((n : ℕ) → IsIpv4 text.now n → IsPrefix (V4 n) 32 → ⊥) }
+    ensures found { IfSome result (λ prefix. IsPrefixText text.now prefix) }
+    ensures none { IfNone result ((number : ℕ) → IsIpv4 text.now number → IsPrefix (V4 number) 32 → ⊥) }
 {
     let Some(number) = ipv4(text) else {
         return None;

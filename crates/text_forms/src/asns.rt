@@ -8,9 +8,9 @@ use crate::decimals::{half, number};
 /// The AS number from 1 to 2^32 - 1 that a text spells, as one decimal number or as its two 16-bit halves
 /// joined by a dot (RFC 5396, section 2: asplain, asdot+). A dot may stand in a number below 65,536 too.
 pub fn asn(text: &[u8]) -> Option<u32>
-    ensures found { IfSome result (λ n. IsAsn text.now n) }
-    ensures only { IfSome result (λ n. (m : ℕ) → IsAsn text.now m → m ≡ n) }
-    ensures none { IfNone result ((m : ℕ) → IsAsn text.now m → ⊥) }
+    ensures found { IfSome result (λ number. IsAsn text.now number) }
+    ensures only { IfSome result (λ number. (other : ℕ) → IsAsn text.now other → other ≡ number) }
+    ensures none { IfNone result ((other : ℕ) → IsAsn text.now other → ⊥) }
 {
     match cut(text, b'.') {
         Some((high, low)) => dotted_asn(high, low),
@@ -20,8 +20,9 @@ pub fn asn(text: &[u8]) -> Option<u32>
 
 // An AS number of which the halves are given.
 fn dotted_asn(high: &[u8], low: &[u8]) -> Option<u32>
-    ensures found { IfSome result (λ n. IsAsn (high.now ++ 46 ∷ low.now) n) }
-    ensures none { IfNone result ((h l : ℕ) → h < 65536 → l < 65536 → high.now ≡ decimal h → low.now ≡ decimal l → h * 65536 + l ≡ 0) }
+    ensures found { IfSome result (λ number. IsAsn (high.now ++ 46 ∷ low.now) number) }
+    ensures none { IfNone result ((upper lower : ℕ) → upper < 65536 → lower < 65536
+        → high.now ≡ decimal upper → low.now ≡ decimal lower → upper * 65536 + lower ≡ 0) }
 {
     let Some(high) = half(high) else {
         return None;
@@ -29,13 +30,15 @@ fn dotted_asn(high: &[u8], low: &[u8]) -> Option<u32>
     let Some(low) = half(low) else {
         return None;
     };
-    let number = u32::from(high) * 65_536 + u32::from(low);
-    if number == 0 { None } else { Some(number) }
+    if high == 0 && low == 0 {
+        return None;
+    }
+    Some(u32::from(high) * 65_536 + u32::from(low))
 }
 
 fn plain_asn(text: &[u8]) -> Option<u32>
-    ensures found { IfSome result (λ n. IsAsn text.now n) }
-    ensures none { IfNone result ((m : ℕ) → 0 < m → m < 2 ^ 32 → text.now ≢ decimal m) }
+    ensures found { IfSome result (λ number. IsAsn text.now number) }
+    ensures none { IfNone result ((other : ℕ) → 0 < other → other < 2 ^ 32 → text.now ≢ decimal other) }
 {
     let Some(number) = number(text) else {
         return None;

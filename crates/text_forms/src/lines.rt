@@ -46,12 +46,12 @@ fn line_in(part: &[u8]) -> Option<Line<'_>>
 {
     let text = trimmed(part);
     if is_blank_line(text) {
-        None
-    } else if part.len() > MAX_LINE {
-        Some(Line::TooLong)
-    } else {
-        Some(Line::Text(text))
+        return None;
     }
+    if part.len() > MAX_LINE {
+        return Some(Line::TooLong);
+    }
+    Some(Line::Text(text))
 }
 
 fn is_blank_line(line: &[u8]) -> bool

@@ -1,5 +1,7 @@
 //! Texts that are read and refused, and the lines and words of some bytes.
-use crate::{Line, asn, cut, first_line, first_word, half, ipv4, ipv4_prefix, is_blank, number, octet, words};
+use crate::{
+    Line, asn, cut, first_line, first_word, half, ipv4, ipv4_prefix, is_blank, number, octet, words,
+};
 use route_values::{Addr, Prefix};
 use std::test::Fail;
 
@@ -151,17 +153,34 @@ fn lines_end_with_a_line_feed_and_blank_ones_are_passed_over(rt: HostRuntime) {
 }
 
 #[test]
-fn a_line_has_65535_bytes_at_most(rt: HostRuntime) -> Result<(), Fail> {
-    let mut bytes = vec![in rt.alloc(); b'x'; 65_535]?;
-    bytes.push(b'\n')?;
-    assert!(rt; first_line(&bytes) == Some((Line::Text(&bytes[..65_535]), b"".as_slice())));
-    bytes[65_534] = b'\r';
-    assert!(rt; first_line(&bytes) == Some((Line::Text(&bytes[..65_534]), b"".as_slice())));
-    bytes[65_535] = b'\r';
-    bytes.push(b'\n')?;
-    assert!(rt; first_line(&bytes) == Some((Line::TooLong, b"".as_slice())));
-    let mut blank = vec![in rt.alloc(); b' '; 65_536]?;
-    blank.push(b'\n')?;
-    assert!(rt; first_line(&blank) == None);
+fn a_line_has_65535_bytes_at_most_with_its_carriage_return(rt: HostRuntime) -> Result<(), Fail> {
+    let cases = [
+        (65_535, b"\n".as_slice(), true),
+        (65_536, b"\n", false),
+        (65_534, b"\r\n", true),
+        (65_535, b"\r\n", false),
+    ];
+    for (count, end, fits) in cases {
+        let text = vec![in rt.alloc(); b'x'; count]?;
+        let mut bytes = text.as_slice().to_vec(rt.alloc())?;
+        bytes.extend_from_slice(end)?;
+        let line = if fits {
+            Line::Text(text.as_slice())
+        } else {
+            Line::TooLong
+        };
+        assert!(rt;
+            first_line(&bytes) == Some((line, b"".as_slice())),
+            "{count}"
+        );
+    }
+    Ok(())
+}
+
+#[test]
+fn a_blank_line_is_passed_over_at_any_length(rt: HostRuntime) -> Result<(), Fail> {
+    let mut bytes = vec![in rt.alloc(); b'\t'; 65_536]?;
+    bytes.extend_from_slice(b"\nx\n")?;
+    assert!(rt; first_line(&bytes) == Some((Line::Text(b"x".as_slice()), b"".as_slice())));
     Ok(())
 }

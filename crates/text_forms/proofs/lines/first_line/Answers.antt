@@ -16,7 +16,7 @@ parts-preserved c =
     let none = ap (λ (first : List Line). first ++ lines c.in-Some.after.now) c.in_default-line_in.ensures in
     record {
       same = none ∙ sym split ∙ ap lines (sym c.in-Some.ensures.found) ∙ c.parts.invariant.same;
-      shorter = omega (arith, ap length c.in-Some.ensures.found, simp length-append at (ap length c.in-Some.ensures.found));
+      shorter = omega (arith, simp length-append at (ap length c.in-Some.ensures.found));
     }
 
 pub returns-clause-none : goal.returns-clause-none

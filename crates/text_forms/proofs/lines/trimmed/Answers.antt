@@ -12,4 +12,5 @@ returns-in-Some c =
 pub returns-in_default : goal.returns-in_default
 returns-in_default c =
     let whole = c.in-Some.ensures.cases.0 in
-    whole ∙ sym (ap without_return whole ∙ without_return-other c.in-Some.front.now c.in-Some.last.now c.if-last-eq13.false)
+    let same = without_return-other c.in-Some.front.now c.in-Some.last.now c.if-last-eq13.false in
+    whole ∙ sym (ap without_return whole ∙ same)

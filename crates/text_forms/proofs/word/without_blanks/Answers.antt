@@ -8,6 +8,7 @@ blanks-preserved c =
     let cut = c.in-Some.ensures.cases in
     let blank = sym c.is_blank.ensures ∙ c.if-not-is_blank.false in
     record {
-      same = sym (ap words_of cut.0 ∙ words_of-blank c.in-Some.b.now c.in-Some.after.now blank) ∙ c.blanks.invariant.same;
+      same = sym (ap words_of cut.0 ∙ words_of-blank c.in-Some.b.now c.in-Some.after.now blank)
+          ∙ c.blanks.invariant.same;
       shorter = omega (arith, cut.1, c.blanks.invariant.shorter);
     }

@@ -5,4 +5,5 @@ use Rattle.text_forms.proofs.word.word_len.Goals as goal
 
 pub loop-i-preserved : goal.loop-i-preserved
 loop-i-preserved c =
-    All-more (λ b. is_blank_byte b ≡ false) c.args.text.now c.loop-i.i 0 (omega arith) c.loop-i.invariant (sym c.is_blank.ensures ∙ c.if-is_blank.false)
+    All-more (λ b. is_blank_byte b ≡ false) c.args.text.now c.loop-i.i 0 (omega arith) c.loop-i.invariant
+    (sym c.is_blank.ensures ∙ c.if-is_blank.false)
