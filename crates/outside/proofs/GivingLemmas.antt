@@ -1,0 +1,25 @@
+-- What a source in memory puts into a buffer.
+use Rattle.std.proofs.Common.{ℕ, ◌≡◌, ◌+◌, ◌≤◌, List, ◌++◌, length, take, drop, sym, ap, ◌∙◌, append_assoc, length-drop, length-take, length-append, arith, refl}
+use Rattle.std.proofs.lemmas.List.{take_all, take-append-le, take-append-drop, drop-drop}
+use Rattle.std.proofs.Math.Seq.{take-add}
+
+-- the front of a buffer into which so many bytes of the content were copied
+pub front_is : (content copied behind : List ℕ) (at count : ℕ) → copied ≡ take count (drop at content) → at + count ≤ length content → take count (copied ++ behind) ≡ take count (drop at content)
+front_is content copied behind at count is within =
+    let len : length copied ≡ count = omega (arith, ap length is, length-take count (drop at content), length-drop at content) in
+    take-append-le count copied behind (omega arith) ∙ take_all count copied (omega arith) ∙ is
+
+-- what was given has grown by the front of the buffer
+pub given_more : (content copied behind : List ℕ) (at count : ℕ) → copied ≡ take count (drop at content) → at + count ≤ length content → take (at + count) content ≡ take at content ++ take count (copied ++ behind)
+given_more content copied behind at count is within =
+    take-add at count content ∙ ap (λ piece. take at content ++ piece) (sym (front_is content copied behind at count is within))
+
+-- what is left has lost the front of the buffer
+pub left_less : (content copied behind : List ℕ) (at count : ℕ) → copied ≡ take count (drop at content) → at + count ≤ length content → drop at content ≡ take count (copied ++ behind) ++ drop (at + count) content
+left_less content copied behind at count is within =
+    rw (front_is content copied behind at count is within, ← drop-drop count at content) (sym (take-append-drop count (drop at content)))
+
+-- so many bytes stand at the front of the buffer
+pub front_fits : (content copied behind : List ℕ) (at count : ℕ) → copied ≡ take count (drop at content) → at + count ≤ length content → count ≤ length (copied ++ behind)
+front_fits content copied behind at count is within =
+    omega (arith, length-append copied behind, ap length is, length-take count (drop at content), length-drop at content)

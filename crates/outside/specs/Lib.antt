@@ -1,0 +1,7 @@
+pub mod Told
+pub mod Calls
+pub mod Opening
+pub mod Plan
+pub mod Supply
+pub mod Store
+pub mod Listed
