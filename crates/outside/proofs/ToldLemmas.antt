@@ -1,5 +1,5 @@
 -- Told bytes grow and shrink piece by piece.
-use Rattle.std.proofs.Common.{ℕ, ◌≡◌, ◌+◌, ◌-◌, ◌≤◌, List, [], ◌++◌, length, sym, ap, ◌∙◌, append_assoc, append-nil, length-append, arith, refl}
+use Rattle.std.proofs.Common.{ℕ, ◌≡◌, ◌+◌, ◌-◌, ◌≤◌, Result, Ok, Err, OnErr, List, [], ◌++◌, length, sym, ap, ◌∙◌, append_assoc, append-nil, length-append, arith, refl}
 use Rattle.std.specs.declared.option.Option.{Option}
 use Rattle.std.specs.declared.option.Option.TheVariants.{Some, None}
 use Rattle.outside.specs.Told.{Grows, Shrinks, AreLeft, AreLeftFrom}
@@ -37,3 +37,8 @@ pub at_least : (old new : Option (List ℕ)) (bytes : List ℕ) → Shrinks old 
 at_least None new bytes before = tt
 at_least (Some was) None bytes before = absurd before
 at_least (Some was) (Some now) bytes before = omega (arith, ap length before, length-append bytes now)
+
+-- a fact that holds anyway holds after an error
+pub on_err : {T E : Type 0} (answer : Result T E) (P : Type 0) → P → OnErr answer P
+on_err (Ok value) P holds = tt
+on_err (Err error) P holds = holds

@@ -18,6 +18,11 @@ module _ {S : Type 0} where
   OpenCounts before now (opened.Open source) = now ≡ before
   OpenCounts before now opened.Failed = (before ≤ now) × Rose before now
 
+  -- a file was opened
+  abbrev pub IsOpen : Opened S → Type 0
+  IsOpen (opened.Open source) = ⊤
+  IsOpen opened.Failed = ⊥
+
   -- what is opened has given nothing, hasn't ended and has no faults
   abbrev pub IsFresh : (S → Option (List ℕ)) → (S → Bool) → (S → ℕ) → Opened S → Type 0
   IsFresh given ended faults (opened.Open source) = GaveNothing (given source) × (ended source ≡ false) × (faults source ≡ 0)

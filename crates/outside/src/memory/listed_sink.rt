@@ -59,6 +59,13 @@ impl<'a> MemorySink<'a> {
     {
         self.store.bytes()
     }
+
+    /// How often it has failed. A count of 2^64 - 1 stays there.
+    pub fn faults(&self) -> u64
+        ensures { result ≡ ⟦<Self as Sink>⟧.faults self.now }
+    {
+        self.plan.faults()
+    }
 }
 
 impl Sink for MemorySink<'_> {

@@ -44,6 +44,13 @@ impl<'a> MemorySource<'a> {
             plan: FaultPlan::new(failing),
         }
     }
+
+    /// How often it has failed. A count of 2^64 - 1 stays there.
+    pub fn faults(&self) -> u64
+        ensures { result ≡ ⟦<Self as Source>⟧.faults self.now }
+    {
+        self.plan.faults()
+    }
 }
 
 impl Source for MemorySource<'_> {
