@@ -1,5 +1,5 @@
 -- Told bytes grow and shrink piece by piece.
-use Rattle.std.proofs.Common.{ℕ, ◌≡◌, ◌+◌, ◌-◌, ◌≤◌, Result, Ok, Err, OnErr, List, [], ◌++◌, length, sym, ap, ◌∙◌, append_assoc, append-nil, length-append, arith, refl}
+use Rattle.std.proofs.Common.{ℕ, Result, Ok, Err, OnErr, List, [], ◌++◌, length, sym, ap, ◌∙◌, append_assoc, append-nil, length-append, arith, refl}
 use Rattle.std.specs.declared.option.Option.{Option}
 use Rattle.std.specs.declared.option.Option.TheVariants.{Some, None}
 use Rattle.outside.specs.Told.{Grows, Shrinks, AreLeft, AreLeftFrom}

@@ -1,10 +1,10 @@
 -- What the calls of an object that opens files do.
-use Rattle.std.specs.Prelude.{ℕ, ◌≡◌, ◌≢◌, ◌<◌, ◌≤◌, List, [], Bool, false, ⊤}
+use Rattle.std.specs.Prelude.{ℕ, ◌≡◌, ◌<◌, ◌≤◌, List, Bool, false, ⊤}
 use Rattle.std.specs.declared.option.Option.{Option}
 use Rattle.std.specs.declared.option.Option.TheVariants.{Some, None}
 use Rattle.outside.specs.declared.files.Opened.{Opened}
 use Rattle.outside.specs.declared.files.Opened.TheVariants as opened
-use Rattle.outside.specs.Told.{AreLeft, GaveNothing, Rose}
+use Rattle.outside.specs.Told.{GaveNothing, Rose}
 
 -- taking a source back counts exactly where the source has faults
 pub record CountsSource (before now faults : ℕ) : Type 0 where

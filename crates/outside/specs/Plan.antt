@@ -19,6 +19,6 @@ strikes_now plan = list_any (λ number. number == plan.calls) plan.failing
 -- the plan after one more call
 abbrev pub after_call : Plan → Plan
 after_call plan = record plan {
-    calls = counted plan.calls;
-    faults = if strikes_now plan then counted plan.faults else plan.faults;
-  }
+  calls = counted plan.calls;
+  faults = if strikes_now plan then counted plan.faults else plan.faults;
+}

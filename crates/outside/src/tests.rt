@@ -33,11 +33,22 @@ fn a_source_gives_its_content_once_from_the_front(rt: HostRuntime) -> Result<(),
     for (content, room, step, wanted) in table {
         let step = step.max(1);
         let mut sure = SureSource::in_steps(content, step);
-        assert_eq!(rt; pieces(alloc, &mut sure, room)?.as_str(), wanted, "never fails");
+        assert_eq!(rt;
+            pieces(alloc, &mut sure, room)?.as_str(),
+            wanted,
+            "never fails"
+        );
         let mut listed = MemorySource::in_steps(content, step, &[]);
-        assert_eq!(rt; pieces(alloc, &mut listed, room)?.as_str(), wanted, "may fail");
+        assert_eq!(rt;
+            pieces(alloc, &mut listed, room)?.as_str(),
+            wanted,
+            "may fail"
+        );
     }
-    assert_eq!(rt; pieces(alloc, &mut SureSource::new(b"abc"), 16)?.as_str(), "abc|");
+    assert_eq!(rt;
+        pieces(alloc, &mut SureSource::new(b"abc"), 16)?.as_str(),
+        "abc|"
+    );
     Ok(())
 }
 
@@ -57,7 +68,11 @@ fn a_source_is_read_whole_where_it_ends_below_the_limit(rt: HostRuntime) -> Resu
         let bytes = read_all(alloc, &mut source, 7)?;
         assert_eq!(rt; bytes.as_slice(), b"abcdef".as_slice(), "step {step}");
         let mut long = SureSource::in_steps(b"abcdef", step);
-        assert_eq!(rt; read_all(alloc, &mut long, 6).err(), Some(Unread::Long), "step {step}");
+        assert_eq!(rt;
+            read_all(alloc, &mut long, 6).err(),
+            Some(Unread::Long),
+            "step {step}"
+        );
         assert_eq!(rt; read_all(alloc, &mut long, 1)?.len(), 0, "step {step}");
     }
     Ok(())
@@ -67,7 +82,10 @@ fn a_source_is_read_whole_where_it_ends_below_the_limit(rt: HostRuntime) -> Resu
 fn a_reading_that_failed_goes_on_where_it_stood(rt: HostRuntime) -> Result<(), Fail> {
     let alloc = rt.alloc();
     let mut source = MemorySource::in_steps(b"abcdef", 2, &[1]);
-    assert_eq!(rt; read_all(alloc, &mut source, 100).err(), Some(Unread::Fault));
+    assert_eq!(rt;
+        read_all(alloc, &mut source, 100).err(),
+        Some(Unread::Fault)
+    );
     let rest = read_all(alloc, &mut source, 100)?;
     assert_eq!(rt; rest.as_slice(), b"cdef".as_slice());
     assert_eq!(rt; source.faults(), 1);
@@ -150,10 +168,23 @@ fn a_file_is_opened_by_its_path(rt: HostRuntime) -> Result<(), Fail> {
     let alloc = rt.alloc();
     let mut sure = SureFiles::new(&HELD);
     let mut listed = MemoryFiles::new(&HELD, &[], &[]);
-    for (path, wanted) in [("a.conf", "one|"), ("b.conf", "two|"), ("c.conf", ""), ("", "")] {
+    for (path, wanted) in [
+        ("a.conf", "one|"),
+        ("b.conf", "two|"),
+        ("c.conf", ""),
+        ("", ""),
+    ] {
         assert_eq!(rt; opened(alloc, &mut sure, path)?.as_str(), wanted, "{path}");
-        assert_eq!(rt; opened(alloc, &mut sure, path)?.as_str(), wanted, "{path} again");
-        assert_eq!(rt; opened(alloc, &mut listed, path)?.as_str(), wanted, "{path}");
+        assert_eq!(rt;
+            opened(alloc, &mut sure, path)?.as_str(),
+            wanted,
+            "{path} again"
+        );
+        assert_eq!(rt;
+            opened(alloc, &mut listed, path)?.as_str(),
+            wanted,
+            "{path}"
+        );
     }
     assert_eq!(rt; listed.faults(), 0);
     Ok(())

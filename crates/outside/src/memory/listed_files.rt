@@ -24,11 +24,7 @@ impl<'a> MemoryFiles<'a> {
     /// These files, of which two with one path count as the first. The calls of `open` of the numbers
     /// `failing` fail, and in each source that it opens the reads of the numbers `failing_reads`, both
     /// counted from 0.
-    pub fn new(
-        held: &'a [HeldFile<'a>],
-        failing: &'a [u64],
-        failing_reads: &'a [u64],
-    ) -> Self
+    pub fn new(held: &'a [HeldFile<'a>], failing: &'a [u64], failing_reads: &'a [u64]) -> Self
         ensures content { ⟦<Self as Files>⟧.content result ≡ Some (content_at held.now) }
         ensures plan { files_plan result ≡ record { failing = failing.now; calls = 0; faults = 0 } }
         ensures reads { failing_reads_of result ≡ failing_reads.now }

@@ -46,6 +46,5 @@ impl<'a> Files for SureFiles<'a> {
     fn give_back(&mut self, _source: SureSource<'a>)
         ensures content { ⟦<Self as Files>⟧.content self.new ≡ ⟦<Self as Files>⟧.content self.old }
         ensures cause { CountsSource 0 0 0 }
-    {
-    }
+    {}
 }
