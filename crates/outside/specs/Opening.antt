@@ -25,11 +25,13 @@ module _ {S : Type 0} where
 
   -- what is opened has given nothing, hasn't ended and has no faults
   abbrev pub IsFresh : (S → Option (List ℕ)) → (S → Bool) → (S → ℕ) → Opened S → Type 0
-  IsFresh given ended faults (opened.Open source) = GaveNothing (given source) × (ended source ≡ false) × (faults source ≡ 0)
+  IsFresh given ended faults (opened.Open source) =
+      GaveNothing (given source) × (ended source ≡ false) × (faults source ≡ 0)
   IsFresh given ended faults opened.Failed = ⊤
 
   -- where the content by path is told, what is opened has the content of its path left to give
-  abbrev pub HasContent : Option (List ℕ → List ℕ) → List ℕ → (S → Option (List ℕ)) → Opened S → Type 0
+  abbrev pub HasContent :
+      Option (List ℕ → List ℕ) → List ℕ → (S → Option (List ℕ)) → Opened S → Type 0
   HasContent (Some content) path left (opened.Open source) = left source ≡ Some (content path)
   HasContent (Some content) path left opened.Failed = ⊤
   HasContent None path left answer = ⊤

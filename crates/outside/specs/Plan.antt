@@ -2,7 +2,7 @@
 use Rattle.std.specs.Prelude.{ℕ, ◌+◌, ◌-◌, ◌^◌, ◌==◌, min, List, Bool, if◌then◌else◌}
 use Rattle.std.specs.List.{list_any}
 
--- the numbers of the calls that are to fail, counted from 0, and how many calls and faults there were
+-- the numbers, from 0, of the calls that are to fail, and how many calls and faults there were
 pub record Plan : Type 0 where
   pub failing : List ℕ
   pub calls : ℕ

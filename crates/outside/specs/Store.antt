@@ -15,4 +15,5 @@ step_of s = s.step
 -- the told bytes grow by a part where the room suffices, and else are told no more
 abbrev pub Keeps : ℕ → Option (List ℕ) → Option (List ℕ) → List ℕ → Type 0
 Keeps room None now part = now ≡ None
-Keeps room (Some was) now part = now ≡ (if nat_le (length was + length part) room then Some (was ++ part) else None)
+Keeps room (Some was) now part =
+    now ≡ (if nat_le (length was + length part) room then Some (was ++ part) else None)

@@ -29,9 +29,9 @@ pub trait Files {
 
     /// Opens the file at a path.
     ///
-    /// The source has given nothing, hasn't ended and has no faults. Where the content is told, it has
-    /// the whole content of the path left to give. `Failed` comes only where the count of faults rose
-    /// in this call.
+    /// The source has given nothing, hasn't ended and has no faults. Where the content is told, it
+    /// has the whole content of the path left to give. `Failed` comes only where the count of
+    /// faults rose in this call.
     fn open(&mut self, path: &str) -> Opened<Self::Source>
         ensures content { content self.new ≡ content self.old }
         ensures cause { OpenCounts (faults self.old) (faults self.new) result }
@@ -41,5 +41,6 @@ pub trait Files {
     /// Takes a source back. The count of faults rises exactly where the source has faults.
     fn give_back(&mut self, source: Self::Source)
         ensures content { content self.new ≡ content self.old }
-        ensures cause { CountsSource (faults self.old) (faults self.new) (Self.Source.faults source) };
+        ensures cause { CountsSource (faults self.old) (faults self.new)
+            (Self.Source.faults source) };
 }

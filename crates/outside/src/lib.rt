@@ -1,8 +1,9 @@
-//! What a program reads and writes, as traits that say what was given and taken, with versions in memory.
+//! What a program reads and writes, as traits that say what was given and taken.
 //!
-//! Each object has a count of its faults, and answers that it failed only where the count rose in that call.
-//! Content is optional: where an object tells it, the clauses say which bytes went through.
-//! Stands on the standard library alone. Real files and streams are in `outside_std`.
+//! Each object has a count of its faults, and answers that it failed only where the count rose in
+//! that call. Content is optional: where an object tells it, the clauses say which bytes went
+//! through. The objects in memory tell it; those over real streams and files are in `outside_std`.
+//! Stands on the standard library alone. Does not wait, open sockets or start programs.
 #![tactic(auto)]
 
 mod files;

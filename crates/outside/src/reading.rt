@@ -1,5 +1,6 @@
 //! A whole source.
-ghost use Rattle.std.specs.Prelude.{◌<◌, ◌≤◌, ◌≡◌, List, ℕ, length, IsTrue, IfOk, OnOk, OnErr, IsErrOf};
+ghost use Rattle.std.specs.Prelude.{◌<◌, ◌≤◌, ◌≡◌, List, ℕ, length, IsTrue};
+ghost use Rattle.std.specs.Prelude.{IfOk, OnOk, OnErr, IsErrOf};
 ghost use Rattle.outside.specs.Told.{Grows, Shrinks, AreLeft, AreLeftFrom, Rose};
 ghost use Rattle.outside.specs.declared.reading.Unread.TheVariants.{Memory};
 
@@ -34,9 +35,9 @@ impl From<AllocError> for Unread {
 
 /// Reads a source to its end, which has to come before `limit` bytes were given.
 ///
-/// The bytes are those that the source gave in this call, in order, and all that it had left. After an
-/// error the source has given some bytes, at most `limit`, which are lost, and hasn't answered that
-/// there are no more: it can be read on from there, or given back.
+/// The bytes are those that the source gave in this call, in order, and all that it had left. After
+/// an error the source has given some bytes, at most `limit`, which are lost, and it stands behind
+/// them: it has not ended in this call, and can be read on or given back.
 pub fn read_all<S: Source>(alloc: Global, source: &mut S, limit: usize) -> Result<Vec<u8>, Unread>
     ensures bytes { IfOk result (λ v. Grows (S.given source.old) (S.given source.new) v.items) }
     ensures left { IfOk result (λ v. Shrinks (S.left source.old) (S.left source.new) v.items) }
@@ -48,10 +49,12 @@ pub fn read_all<S: Source>(alloc: Global, source: &mut S, limit: usize) -> Resul
     ensures later { S.faults source.old ≤ S.faults source.new }
     ensures same { ¬ IsErrOf result Unread.Fault → S.faults source.new ≡ S.faults source.old }
     ensures fault { IsErrOf result Unread.Fault → Rose (S.faults source.old) (S.faults source.new) }
-    ensures long { IsErrOf result Unread.Long → (bytes : List ℕ) × Grows (S.given source.old) (S.given source.new) bytes
+    ensures long { IsErrOf result Unread.Long → (bytes : List ℕ)
+        × Grows (S.given source.old) (S.given source.new) bytes
         × (length bytes ≡ limit) × (S.ended source.new ≡ S.ended source.old) }
     ensures over { IsErrOf result Unread.Long → AreLeftFrom (S.left source.old) limit }
-    ensures part { OnErr result ((bytes : List ℕ) × Grows (S.given source.old) (S.given source.new) bytes
+    ensures part { OnErr result ((bytes : List ℕ)
+        × Grows (S.given source.old) (S.given source.new) bytes
         × Shrinks (S.left source.old) (S.left source.new) bytes × (length bytes ≤ limit)) }
     ensures open { OnErr result (S.ended source.new ≡ S.ended source.old) }
 {

@@ -2,7 +2,7 @@ use super::*;
 use std::alloc::Global;
 use std::test::Fail;
 
-/// What the calls of a source give until it ends, with `|` behind each piece and `!` for each fault.
+/// What the calls of a source give until it ends, with `|` behind each piece, `!` for each fault.
 fn pieces<S: Source>(alloc: Global, source: &mut S, room: usize) -> Result<String, Fail> {
     let mut text = String::new(alloc);
     let mut buffer = [0; 16];

@@ -8,8 +8,8 @@ use crate::memory::held::{HeldFile, content_of};
 use crate::memory::listed_source::MemorySource;
 use crate::source::Source;
 
-/// Opens the files that it holds, and fails at the calls that it was told. A path that it doesn't hold
-/// has no bytes.
+/// Opens the files that it holds, and fails at the calls that it was told. A path that it doesn't
+/// hold has no bytes.
 #[derive(Drop)]
 pub struct MemoryFiles<'a> {
     held: &'a [HeldFile<'a>],
@@ -21,9 +21,9 @@ impl<'a> MemoryFiles<'a> {
     ghost use Rattle.outside.specs.Plan.{Plan};
     ghost use Rattle.outside.specs.Listed.{files_plan, failing_reads_of};
 
-    /// These files, of which two with one path count as the first. The calls of `open` of the numbers
-    /// `failing` fail, and in each source that it opens the reads of the numbers `failing_reads`, both
-    /// counted from 0.
+    /// These files. Of two with one path the first counts. The calls of `open` of the numbers
+    /// `failing` fail, and in each source that it opens the reads of the numbers `failing_reads`,
+    /// both counted from 0.
     pub fn new(held: &'a [HeldFile<'a>], failing: &'a [u64], failing_reads: &'a [u64]) -> Self
         ensures content { ⟦<Self as Files>⟧.content result ≡ Some (content_at held.now) }
         ensures plan { files_plan result ≡ record { failing = failing.now; calls = 0; faults = 0 } }
@@ -59,10 +59,13 @@ impl<'a> Files for MemoryFiles<'a> {
     /// As `Files::open`; a call that was told to fails, and each other one opens its file.
     fn open(&mut self, path: &str) -> Opened<MemorySource<'a>>
         ensures content { ⟦<Self as Files>⟧.content self.new ≡ ⟦<Self as Files>⟧.content self.old }
-        ensures cause { OpenCounts (⟦<Self as Files>⟧.faults self.old) (⟦<Self as Files>⟧.faults self.new) result }
-        ensures fresh { IsFresh ⟦<MemorySource<'static> as Source>⟧.given ⟦<MemorySource<'static> as Source>⟧.ended
+        ensures cause { OpenCounts (⟦<Self as Files>⟧.faults self.old)
+            (⟦<Self as Files>⟧.faults self.new) result }
+        ensures fresh { IsFresh ⟦<MemorySource<'static> as Source>⟧.given
+            ⟦<MemorySource<'static> as Source>⟧.ended
             ⟦<MemorySource<'static> as Source>⟧.faults result }
-        ensures holds { HasContent (⟦<Self as Files>⟧.content self.old) path.now ⟦<MemorySource<'static> as Source>⟧.left result }
+        ensures holds { HasContent (⟦<Self as Files>⟧.content self.old) path.now
+            ⟦<MemorySource<'static> as Source>⟧.left result }
         ensures failed { strikes_now (files_plan self.old) ≡ true → result ≡ Opened.Failed }
         ensures opens { strikes_now (files_plan self.old) ≡ false → IsOpen result }
         ensures reads { FailsAt (failing_reads_of self.old) result }
@@ -78,7 +81,8 @@ impl<'a> Files for MemoryFiles<'a> {
 
     fn give_back(&mut self, source: MemorySource<'a>)
         ensures content { ⟦<Self as Files>⟧.content self.new ≡ ⟦<Self as Files>⟧.content self.old }
-        ensures cause { CountsSource (⟦<Self as Files>⟧.faults self.old) (⟦<Self as Files>⟧.faults self.new)
+        ensures cause { CountsSource (⟦<Self as Files>⟧.faults self.old)
+            (⟦<Self as Files>⟧.faults self.new)
             (⟦<MemorySource<'static> as Source>⟧.faults source.entry) }
         ensures same { failing_reads_of self.new ≡ failing_reads_of self.old }
     {

@@ -1,5 +1,6 @@
 //! A sink in memory that fails at some of its calls.
-ghost use Rattle.std.specs.Prelude.{◌≡◌, ◌<◌, ◌-◌, ◌^◌, [], Some, true, false, length, take, min, IfOk};
+ghost use Rattle.std.specs.Prelude.{◌≡◌, ◌<◌, ◌-◌, ◌^◌, min, [], length, take};
+ghost use Rattle.std.specs.Prelude.{Some, true, false, IfOk};
 ghost use Rattle.std.specs.Option.{option_copied};
 
 use crate::memory::fault_plan::FaultPlan;
@@ -22,13 +23,14 @@ impl<'a> MemorySink<'a> {
     ghost use Rattle.outside.specs.Store.{room_of, step_of};
     ghost use Rattle.outside.specs.Listed.{store_of, sink_plan};
 
-    /// A sink with room for so many bytes, which takes the whole of each piece and fails at its calls
-    /// of these numbers, counted from 0.
+    /// A sink with room for so many bytes, which takes the whole of each piece and fails at its
+    /// calls of these numbers, counted from 0.
     pub fn new(alloc: Global, room: usize, failing: &'a [u64]) -> Result<Self, AllocError>
         ensures taken { IfOk result (λ sink. ⟦<Self as Sink>⟧.taken sink ≡ Some []) }
         ensures room { IfOk result (λ sink. room_of (store_of sink) ≡ room) }
         ensures step { IfOk result (λ sink. step_of (store_of sink) ≡ 2 ^ 64 - 1) }
-        ensures plan { IfOk result (λ sink. sink_plan sink ≡ record { failing = failing.now; calls = 0; faults = 0 }) }
+        ensures plan { IfOk result (λ sink. sink_plan sink
+            ≡ record { failing = failing.now; calls = 0; faults = 0 }) }
     {
         Self::in_steps(alloc, room, usize::MAX, failing)
     }
@@ -45,7 +47,8 @@ impl<'a> MemorySink<'a> {
         ensures taken { IfOk result (λ sink. ⟦<Self as Sink>⟧.taken sink ≡ Some []) }
         ensures room { IfOk result (λ sink. room_of (store_of sink) ≡ room) }
         ensures step { IfOk result (λ sink. step_of (store_of sink) ≡ step) }
-        ensures plan { IfOk result (λ sink. sink_plan sink ≡ record { failing = failing.now; calls = 0; faults = 0 }) }
+        ensures plan { IfOk result (λ sink. sink_plan sink
+            ≡ record { failing = failing.now; calls = 0; faults = 0 }) }
     {
         Ok(MemorySink {
             store: SureSink::in_steps(alloc, room, step)?,
@@ -78,17 +81,21 @@ impl Sink for MemorySink<'_> {
 
     ghost faults = { λ s. s.plan.faults };
 
-    /// As `Sink::write`; a call that was told to fails, and each other one takes the whole piece, as
-    /// far as the step reaches.
+    /// As `Sink::write`; a call that was told to fails, and each other one takes the whole piece,
+    /// as far as the step reaches.
     fn write(&mut self, piece: &[u8]) -> Write
         requires { 0 < length piece.now }
-        ensures bytes { Writes (⟦<Self as Sink>⟧.taken self.old) (⟦<Self as Sink>⟧.taken self.new) piece.now result }
-        ensures cause { WriteCounts (⟦<Self as Sink>⟧.faults self.old) (⟦<Self as Sink>⟧.faults self.new) result }
+        ensures bytes { Writes (⟦<Self as Sink>⟧.taken self.old)
+            (⟦<Self as Sink>⟧.taken self.new) piece.now result }
+        ensures cause { WriteCounts (⟦<Self as Sink>⟧.faults self.old)
+            (⟦<Self as Sink>⟧.faults self.new) result }
         ensures failed { strikes_now (sink_plan self.old) ≡ true → result ≡ Write.Failed }
         ensures answer { strikes_now (sink_plan self.old) ≡ false
             → result ≡ Write.Wrote (min (length piece.now) (step_of (store_of self.old))) }
-        ensures kept { strikes_now (sink_plan self.old) ≡ true → ⟦<Self as Sink>⟧.taken self.new ≡ ⟦<Self as Sink>⟧.taken self.old }
-        ensures told { strikes_now (sink_plan self.old) ≡ false → Keeps (room_of (store_of self.old))
+        ensures kept { strikes_now (sink_plan self.old) ≡ true
+            → ⟦<Self as Sink>⟧.taken self.new ≡ ⟦<Self as Sink>⟧.taken self.old }
+        ensures told { strikes_now (sink_plan self.old) ≡ false
+            → Keeps (room_of (store_of self.old))
             (⟦<Self as Sink>⟧.taken self.old) (⟦<Self as Sink>⟧.taken self.new)
             (take (min (length piece.now) (step_of (store_of self.old))) piece.now) }
         ensures plan { sink_plan self.new ≡ after_call (sink_plan self.old) }

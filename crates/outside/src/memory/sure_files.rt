@@ -35,9 +35,11 @@ impl<'a> Files for SureFiles<'a> {
     fn open(&mut self, path: &str) -> Opened<SureSource<'a>>
         ensures content { ⟦<Self as Files>⟧.content self.new ≡ ⟦<Self as Files>⟧.content self.old }
         ensures cause { OpenCounts 0 0 result }
-        ensures fresh { IsFresh ⟦<SureSource<'static> as Source>⟧.given ⟦<SureSource<'static> as Source>⟧.ended
+        ensures fresh { IsFresh ⟦<SureSource<'static> as Source>⟧.given
+            ⟦<SureSource<'static> as Source>⟧.ended
             ⟦<SureSource<'static> as Source>⟧.faults result }
-        ensures holds { HasContent (⟦<Self as Files>⟧.content self.old) path.now ⟦<SureSource<'static> as Source>⟧.left result }
+        ensures holds { HasContent (⟦<Self as Files>⟧.content self.old) path.now
+            ⟦<SureSource<'static> as Source>⟧.left result }
         ensures opens { IsOpen result }
     {
         Opened::Open(SureSource::new(content_of(self.held, path)))

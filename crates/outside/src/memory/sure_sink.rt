@@ -1,5 +1,6 @@
 //! A sink in memory that never fails.
-ghost use Rattle.std.specs.Prelude.{◌≡◌, ◌<◌, ◌≤◌, ◌-◌, ◌^◌, [], List, ℕ, Some, None, length, take, min, IfOk, vec_len, vec_capacity, if◌then◌else◌};
+ghost use Rattle.std.specs.Prelude.{◌≡◌, ◌<◌, ◌≤◌, ◌-◌, ◌^◌, min, if◌then◌else◌};
+ghost use Rattle.std.specs.Prelude.{[], length, take, vec_len, vec_capacity, Some, None, IfOk};
 ghost use Rattle.std.specs.Option.{option_copied};
 
 use crate::sink::{Sink, Write};
@@ -56,7 +57,8 @@ impl SureSink {
 
     /// Keeps a part, or loses all where the room is too small.
     fn keep(&mut self, part: &[u8])
-        ensures told { Keeps (room_of self.old) (⟦<Self as Sink>⟧.taken self.old) (⟦<Self as Sink>⟧.taken self.new) part.now }
+        ensures told { Keeps (room_of self.old) (⟦<Self as Sink>⟧.taken self.old)
+            (⟦<Self as Sink>⟧.taken self.new) part.now }
         ensures room { room_of self.new ≡ room_of self.old }
         ensures step { step_of self.new ≡ step_of self.old }
     {
@@ -81,10 +83,12 @@ impl Sink for SureSink {
     /// As `Sink::write`; it takes the whole piece, as far as the step reaches.
     fn write(&mut self, piece: &[u8]) -> Write
         requires { 0 < length piece.now }
-        ensures bytes { Writes (⟦<Self as Sink>⟧.taken self.old) (⟦<Self as Sink>⟧.taken self.new) piece.now result }
+        ensures bytes { Writes (⟦<Self as Sink>⟧.taken self.old)
+            (⟦<Self as Sink>⟧.taken self.new) piece.now result }
         ensures cause { WriteCounts 0 0 result }
         ensures answer { result ≡ Write.Wrote (min (length piece.now) (step_of self.old)) }
-        ensures told { Keeps (room_of self.old) (⟦<Self as Sink>⟧.taken self.old) (⟦<Self as Sink>⟧.taken self.new)
+        ensures told { Keeps (room_of self.old)
+            (⟦<Self as Sink>⟧.taken self.old) (⟦<Self as Sink>⟧.taken self.new)
             (take (min (length piece.now) (step_of self.old)) piece.now) }
         ensures room { room_of self.new ≡ room_of self.old }
         ensures step { step_of self.new ≡ step_of self.old }

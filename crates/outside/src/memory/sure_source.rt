@@ -1,5 +1,6 @@
 //! A source in memory that never fails.
-ghost use Rattle.std.specs.Prelude.{◌≡◌, ◌<◌, ◌≤◌, ◌-◌, ◌^◌, [], List, ℕ, Some, length, take, drop, false};
+ghost use Rattle.std.specs.Prelude.{◌≡◌, ◌<◌, ◌≤◌, ◌-◌, ◌^◌, [], length, take, drop};
+ghost use Rattle.std.specs.Prelude.{Some, false};
 
 use crate::source::{Read, Source};
 
@@ -59,11 +60,15 @@ impl Source for SureSource<'_> {
     /// As `Source::read`; it gives all that is left, as far as the buffer and the step reach.
     fn read(&mut self, into: &mut [u8]) -> Read
         requires { 0 < length into.old }
-        ensures bytes { Reads (⟦<Self as Source>⟧.given self.old) (⟦<Self as Source>⟧.given self.new) into.new result }
-        ensures left { Leaves (⟦<Self as Source>⟧.left self.old) (⟦<Self as Source>⟧.left self.new) into.new result }
-        ensures end { Ends (⟦<Self as Source>⟧.ended self.old) (⟦<Self as Source>⟧.ended self.new) result }
+        ensures bytes { Reads (⟦<Self as Source>⟧.given self.old)
+            (⟦<Self as Source>⟧.given self.new) into.new result }
+        ensures left { Leaves (⟦<Self as Source>⟧.left self.old)
+            (⟦<Self as Source>⟧.left self.new) into.new result }
+        ensures end { Ends (⟦<Self as Source>⟧.ended self.old)
+            (⟦<Self as Source>⟧.ended self.new) result }
         ensures cause { ReadCounts 0 0 result }
-        ensures answer { result ≡ answer_of (length into.old) (step_of self.old) (rest_of self.old) }
+        ensures answer { result ≡ answer_of (length into.old) (step_of self.old)
+            (rest_of self.old) }
         ensures step { step_of self.new ≡ step_of self.old }
     {
         let rest = &self.content[self.at..];

@@ -11,7 +11,8 @@ rests-preserved g c =
     let bytes = c.in-Wrote.ensures.bytes in
     record {
       within = omega (arith, bytes.1, length-drop written piece);
-      taken = rw (take-add written c.in-Wrote.count piece) (grows_more _ _ _ _ _ c.rests.invariant.taken (rw (take_rest piece written) at bytes.2));
+      taken = rw (take-add written c.in-Wrote.count piece)
+          (grows_more _ _ _ _ _ c.rests.invariant.taken (rw (take_rest piece written) at bytes.2));
       same = c.in-Wrote.ensures.cause.same (λ failed. cc) ∙ c.rests.invariant.same;
     }
 

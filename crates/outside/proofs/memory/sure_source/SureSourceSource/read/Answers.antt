@@ -15,4 +15,5 @@ returns-clause-bytes c =
 pub returns-clause-left : goal.returns-clause-left
 returns-clause-left c =
     let source = c.args.self.now in
-    left_less source.content.now _ _ source.at c.min-count.result (rw take_rest at c.copy_from_slice.ensures.after) (omega arith)
+    let copied = rw take_rest at c.copy_from_slice.ensures.after in
+    left_less source.content.now _ _ source.at c.min-count.result copied (omega arith)
