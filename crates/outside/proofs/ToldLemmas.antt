@@ -1,0 +1,32 @@
+-- Told bytes grow and shrink piece by piece.
+use Rattle.std.proofs.Common.{ℕ, Result, Ok, Err, OnErr, List, ◌++◌, ◌∙◌, sym, ap, append_assoc}
+use Rattle.std.specs.declared.option.Option.{Option}
+use Rattle.std.specs.declared.option.Option.TheVariants.{Some, None}
+use Rattle.outside.specs.Told.{Grows, Shrinks}
+
+-- by two pieces, one behind the other
+pub grows_more :
+    (old mid new : Option (List ℕ)) (first second : List ℕ) →
+    Grows old mid first → Grows mid new second → Grows old new (first ++ second)
+grows_more old mid None first second before after = tt
+grows_more old None (Some now) first second before after = absurd after
+grows_more None (Some then) (Some now) first second before after = absurd before
+grows_more (Some was) (Some then) (Some now) first second before after =
+    after ∙ ap (λ bytes. bytes ++ second) before ∙ append_assoc was first second
+
+-- by two pieces, one behind the other
+pub shrinks_more :
+    (old mid new : Option (List ℕ)) (first second : List ℕ) →
+    Shrinks old mid first → Shrinks mid new second → Shrinks old new (first ++ second)
+shrinks_more None None None first second before after = tt
+shrinks_more None None (Some now) first second before after = absurd after
+shrinks_more None (Some then) new first second before after = absurd before
+shrinks_more (Some was) None new first second before after = absurd before
+shrinks_more (Some was) (Some then) None first second before after = absurd after
+shrinks_more (Some was) (Some then) (Some now) first second before after =
+    before ∙ ap (λ bytes. first ++ bytes) after ∙ sym (append_assoc first second now)
+
+-- a fact that holds anyway holds after an error
+pub on_err : {T E : Type 0} (answer : Result T E) (P : Type 0) → P → OnErr answer P
+on_err (Ok value) P holds = tt
+on_err (Err error) P holds = holds

@@ -1,0 +1,93 @@
+//! Files in memory that fail at some of their calls.
+ghost use Rattle.std.specs.Prelude.{◌≡◌, [], Some, true, false};
+ghost use Rattle.outside.specs.Held.{content_at};
+
+use crate::files::{Files, Opened};
+use crate::memory::fault_plan::FaultPlan;
+use crate::memory::held::{HeldFile, content_of};
+use crate::memory::listed_source::MemorySource;
+use crate::source::Source;
+
+/// Opens the files that it holds, and fails at the calls that it was told. A path that it doesn't
+/// hold has no bytes.
+#[derive(Drop)]
+pub struct MemoryFiles<'a> {
+    held: &'a [HeldFile<'a>],
+    failing_reads: &'a [u64],
+    plan: FaultPlan<'a>,
+}
+
+impl<'a> MemoryFiles<'a> {
+    ghost use Rattle.outside.specs.Plan.{Plan};
+    ghost use Rattle.outside.specs.Listed.{files_plan, failing_reads_of};
+
+    /// These files. Of two with one path the first counts. The calls of `open` of the numbers
+    /// `failing` fail, and in each source that it opens the reads of the numbers `failing_reads`,
+    /// both counted from 0.
+    pub fn new(held: &'a [HeldFile<'a>], failing: &'a [u64], failing_reads: &'a [u64]) -> Self
+        ensures content { ⟦<Self as Files>⟧.content result ≡ Some (content_at held.now) }
+        ensures plan { files_plan result ≡ record { failing = failing.now; calls = 0; faults = 0 } }
+        ensures reads { failing_reads_of result ≡ failing_reads.now }
+    {
+        MemoryFiles {
+            held,
+            failing_reads,
+            plan: FaultPlan::new(failing),
+        }
+    }
+
+    /// How often it has failed, its sources included once they were given back. A count of 2^64 - 1
+    /// stays there.
+    pub fn faults(&self) -> u64
+        ensures { result ≡ ⟦<Self as Files>⟧.faults self.now }
+    {
+        self.plan.faults()
+    }
+}
+
+impl<'a> Files for MemoryFiles<'a> {
+    ghost use Rattle.outside.specs.Opening.{OpenCounts, IsFresh, HasContent, CountsSource, IsOpen};
+    ghost use Rattle.outside.specs.Plan.{strikes_now, after_call, counted};
+    ghost use Rattle.outside.specs.Listed.{files_plan, failing_reads_of, FailsAt, source_plan};
+
+    type Source = MemorySource<'a>;
+
+    ghost content = { λ f. Some (content_at f.held.now) };
+
+    ghost faults = { λ f. f.plan.faults };
+
+    /// As `Files::open`; a call that was told to fails, and each other one opens its file.
+    fn open(&mut self, path: &str) -> Opened<MemorySource<'a>>
+        ensures content { ⟦<Self as Files>⟧.content self.new ≡ ⟦<Self as Files>⟧.content self.old }
+        ensures cause { OpenCounts (⟦<Self as Files>⟧.faults self.old)
+            (⟦<Self as Files>⟧.faults self.new) result }
+        ensures fresh { IsFresh ⟦<MemorySource<'static> as Source>⟧.given
+            ⟦<MemorySource<'static> as Source>⟧.ended
+            ⟦<MemorySource<'static> as Source>⟧.faults result }
+        ensures holds { HasContent (⟦<Self as Files>⟧.content self.old) path.now
+            ⟦<MemorySource<'static> as Source>⟧.left result }
+        ensures failed { strikes_now (files_plan self.old) ≡ true → result ≡ Opened.Failed }
+        ensures opens { strikes_now (files_plan self.old) ≡ false → IsOpen result }
+        ensures reads { FailsAt (failing_reads_of self.old) result }
+        ensures plan { files_plan self.new ≡ after_call (files_plan self.old) }
+        ensures same { failing_reads_of self.new ≡ failing_reads_of self.old }
+    {
+        if self.plan.strikes() {
+            return Opened::Failed;
+        }
+        let content = content_of(self.held, path);
+        Opened::Open(MemorySource::new(content, self.failing_reads))
+    }
+
+    fn give_back(&mut self, source: MemorySource<'a>)
+        ensures content { ⟦<Self as Files>⟧.content self.new ≡ ⟦<Self as Files>⟧.content self.old }
+        ensures cause { CountsSource (⟦<Self as Files>⟧.faults self.old)
+            (⟦<Self as Files>⟧.faults self.new)
+            (⟦<MemorySource<'static> as Source>⟧.faults source.entry) }
+        ensures same { failing_reads_of self.new ≡ failing_reads_of self.old }
+    {
+        if source.faults() > 0 {
+            self.plan.count();
+        }
+    }
+}

@@ -1,0 +1,52 @@
+//! Files in memory that never fail.
+ghost use Rattle.std.specs.Prelude.{◌≡◌, [], Some, false};
+ghost use Rattle.outside.specs.Held.{content_at};
+
+use crate::files::{Files, Opened};
+use crate::memory::held::{HeldFile, content_of};
+use crate::memory::sure_source::SureSource;
+use crate::source::Source;
+
+/// Opens the files that it holds, and never fails. A path that it doesn't hold has no bytes.
+#[derive(Drop)]
+pub struct SureFiles<'a> {
+    held: &'a [HeldFile<'a>],
+}
+
+impl<'a> SureFiles<'a> {
+    /// These files. Of two with one path the first counts.
+    pub fn new(held: &'a [HeldFile<'a>]) -> Self
+        ensures { ⟦<Self as Files>⟧.content result ≡ Some (content_at held.now) }
+    {
+        SureFiles { held }
+    }
+}
+
+impl<'a> Files for SureFiles<'a> {
+    ghost use Rattle.outside.specs.Opening.{OpenCounts, IsFresh, HasContent, CountsSource, IsOpen};
+
+    type Source = SureSource<'a>;
+
+    ghost content = { λ f. Some (content_at f.held.now) };
+
+    ghost faults = { λ _. 0 };
+
+    /// As `Files::open`; it never fails.
+    fn open(&mut self, path: &str) -> Opened<SureSource<'a>>
+        ensures content { ⟦<Self as Files>⟧.content self.new ≡ ⟦<Self as Files>⟧.content self.old }
+        ensures cause { OpenCounts 0 0 result }
+        ensures fresh { IsFresh ⟦<SureSource<'static> as Source>⟧.given
+            ⟦<SureSource<'static> as Source>⟧.ended
+            ⟦<SureSource<'static> as Source>⟧.faults result }
+        ensures holds { HasContent (⟦<Self as Files>⟧.content self.old) path.now
+            ⟦<SureSource<'static> as Source>⟧.left result }
+        ensures opens { IsOpen result }
+    {
+        Opened::Open(SureSource::new(content_of(self.held, path)))
+    }
+
+    fn give_back(&mut self, _source: SureSource<'a>)
+        ensures content { ⟦<Self as Files>⟧.content self.new ≡ ⟦<Self as Files>⟧.content self.old }
+        ensures cause { CountsSource 0 0 0 }
+    {}
+}

@@ -1,0 +1,202 @@
+use super::*;
+use std::alloc::Global;
+use std::test::Fail;
+
+/// What the calls of a source give until it ends, with `|` behind each piece, `!` for each fault.
+fn pieces<S: Source>(alloc: Global, source: &mut S, room: usize) -> Result<String, Fail> {
+    let mut text = String::new(alloc);
+    let mut buffer = [0; 16];
+    for _ in 0..20 {
+        match source.read(&mut buffer[..room.clamp(1, 16)]) {
+            Read::Got(count) => {
+                let piece = String::from_utf8(Vec::from_slice(alloc, &buffer[..count])?)?;
+                text.push_str(piece.as_str())?;
+                text.push('|')?;
+            }
+            Read::End => return Ok(text),
+            Read::Failed => text.push('!')?,
+        }
+    }
+    Err(Fail::from("the source doesn't end"))
+}
+
+#[test]
+fn a_source_gives_its_content_once_from_the_front(rt: HostRuntime) -> Result<(), Fail> {
+    let alloc = rt.alloc();
+    let table: [(&[u8], usize, usize, &str); 5] = [
+        (b"abcdef", 4, 9, "abcd|ef|"),
+        (b"abcdef", 3, 9, "abc|def|"),
+        (b"abcdef", 16, 9, "abcdef|"),
+        (b"abcdef", 16, 4, "abcd|ef|"),
+        (b"", 1, 1, ""),
+    ];
+    for (content, room, step, wanted) in table {
+        let step = step.max(1);
+        let mut sure = SureSource::in_steps(content, step);
+        assert_eq!(rt;
+            pieces(alloc, &mut sure, room)?.as_str(),
+            wanted,
+            "never fails"
+        );
+        let mut listed = MemorySource::in_steps(content, step, &[]);
+        assert_eq!(rt;
+            pieces(alloc, &mut listed, room)?.as_str(),
+            wanted,
+            "may fail"
+        );
+    }
+    assert_eq!(rt;
+        pieces(alloc, &mut SureSource::new(b"abc"), 16)?.as_str(),
+        "abc|"
+    );
+    Ok(())
+}
+
+#[test]
+fn the_listed_reads_fail_and_lose_no_byte(rt: HostRuntime) -> Result<(), Fail> {
+    let mut source = MemorySource::new(b"abcdef", &[0, 2, 3]);
+    assert_eq!(rt; pieces(rt.alloc(), &mut source, 4)?.as_str(), "!abcd|!!ef|");
+    assert_eq!(rt; source.faults(), 3);
+    Ok(())
+}
+
+#[test]
+fn a_source_is_read_whole_where_it_ends_below_the_limit(rt: HostRuntime) -> Result<(), Fail> {
+    let alloc = rt.alloc();
+    for step in [1, 2, 5, 100] {
+        let mut source = SureSource::in_steps(b"abcdef", step);
+        let bytes = read_all(alloc, &mut source, 7)?;
+        assert_eq!(rt; bytes.as_slice(), b"abcdef".as_slice(), "step {step}");
+        let mut long = SureSource::in_steps(b"abcdef", step);
+        assert_eq!(rt;
+            read_all(alloc, &mut long, 6).err(),
+            Some(Unread::Long),
+            "step {step}"
+        );
+        assert_eq!(rt; read_all(alloc, &mut long, 1)?.len(), 0, "step {step}");
+    }
+    Ok(())
+}
+
+#[test]
+fn a_reading_that_failed_goes_on_where_it_stood(rt: HostRuntime) -> Result<(), Fail> {
+    let alloc = rt.alloc();
+    let mut source = MemorySource::in_steps(b"abcdef", 2, &[1]);
+    assert_eq!(rt;
+        read_all(alloc, &mut source, 100).err(),
+        Some(Unread::Fault)
+    );
+    let rest = read_all(alloc, &mut source, 100)?;
+    assert_eq!(rt; rest.as_slice(), b"cdef".as_slice());
+    assert_eq!(rt; source.faults(), 1);
+    Ok(())
+}
+
+/// What a sink that takes at most `step` bytes a call holds after three pieces.
+fn written(alloc: Global, step: usize) -> Result<Vec<u8>, Fail> {
+    let mut sink = SureSink::in_steps(alloc, 100, step.max(1))?;
+    write_all(&mut sink, b"abcdef")?;
+    write_all(&mut sink, b"")?;
+    write_all(&mut sink, b"gh")?;
+    let bytes = sink.bytes().ok_or("the sink has room")?;
+    Ok(Vec::from_slice(alloc, bytes)?)
+}
+
+#[test]
+fn a_piece_is_written_whole_through_short_writes(rt: HostRuntime) -> Result<(), Fail> {
+    for step in [1, 2, 5, 100] {
+        let bytes = written(rt.alloc(), step)?;
+        assert_eq!(rt; bytes.as_slice(), b"abcdefgh".as_slice(), "step {step}");
+    }
+    Ok(())
+}
+
+#[test]
+fn a_write_that_fails_leaves_the_part_before_it(rt: HostRuntime) -> Result<(), Fail> {
+    let alloc = rt.alloc();
+    let mut sink = MemorySink::in_steps(alloc, 100, 2, &[1])?;
+    assert_eq!(rt; write_all(&mut sink, b"abcdef"), Err(WriteFault));
+    assert_eq!(rt; sink.bytes(), Some(b"ab".as_slice()));
+    assert_eq!(rt; sink.faults(), 1);
+    let mut first = MemorySink::new(alloc, 100, &[0])?;
+    assert_eq!(rt; write_all(&mut first, b"abcdef"), Err(WriteFault));
+    assert_eq!(rt; first.bytes(), Some(b"".as_slice()));
+    Ok(())
+}
+
+#[test]
+fn a_sink_without_room_takes_on_and_tells_nothing(rt: HostRuntime) -> Result<(), Fail> {
+    let mut sink = SureSink::new(rt.alloc(), 4)?;
+    write_all(&mut sink, b"abcd")?;
+    assert_eq!(rt; sink.bytes(), Some(b"abcd".as_slice()));
+    write_all(&mut sink, b"e")?;
+    assert_eq!(rt; sink.bytes(), None);
+    write_all(&mut sink, b"f")?;
+    assert_eq!(rt; sink.bytes(), None);
+    Ok(())
+}
+
+const HELD: [HeldFile<'static>; 3] = [
+    HeldFile {
+        path: "a.conf",
+        content: b"one",
+    },
+    HeldFile {
+        path: "b.conf",
+        content: b"two",
+    },
+    HeldFile {
+        path: "a.conf",
+        content: b"three",
+    },
+];
+
+/// The content that a path opens, `no` where it isn't opened.
+fn opened<F: Files>(alloc: Global, files: &mut F, path: &str) -> Result<String, Fail> {
+    match files.open(path) {
+        Opened::Failed => Ok(String::from_str(alloc, "no")?),
+        Opened::Open(mut source) => {
+            let text = pieces(alloc, &mut source, 16);
+            files.give_back(source);
+            text
+        }
+    }
+}
+
+#[test]
+fn a_file_is_opened_by_its_path(rt: HostRuntime) -> Result<(), Fail> {
+    let alloc = rt.alloc();
+    let mut sure = SureFiles::new(&HELD);
+    let mut listed = MemoryFiles::new(&HELD, &[], &[]);
+    for (path, wanted) in [
+        ("a.conf", "one|"),
+        ("b.conf", "two|"),
+        ("c.conf", ""),
+        ("", ""),
+    ] {
+        assert_eq!(rt; opened(alloc, &mut sure, path)?.as_str(), wanted, "{path}");
+        assert_eq!(rt;
+            opened(alloc, &mut sure, path)?.as_str(),
+            wanted,
+            "{path} again"
+        );
+        assert_eq!(rt;
+            opened(alloc, &mut listed, path)?.as_str(),
+            wanted,
+            "{path}"
+        );
+    }
+    assert_eq!(rt; listed.faults(), 0);
+    Ok(())
+}
+
+#[test]
+fn faults_of_opening_and_of_what_was_opened_count(rt: HostRuntime) -> Result<(), Fail> {
+    let alloc = rt.alloc();
+    let mut files = MemoryFiles::new(&HELD, &[1], &[1]);
+    for (wanted, faults) in [("one|!", 1), ("no", 2), ("one|!", 3)] {
+        assert_eq!(rt; opened(alloc, &mut files, "a.conf")?.as_str(), wanted);
+        assert_eq!(rt; files.faults(), faults, "{wanted}");
+    }
+    Ok(())
+}

@@ -1,0 +1,145 @@
+use super::*;
+use outside::{Files, Opened, Read, Sink, Source, Unread, Write, read_all, write_all};
+use std::io::ErrorKind;
+use std::test::Fail;
+use std::{env, fs, io};
+
+/// A reader and writer whose calls answer in this order: so many bytes, each an `x`, or an error.
+/// Behind its last answer it is at its end.
+#[derive(Drop)]
+struct Scripted<'a> {
+    answers: &'a [Result<usize, ErrorKind>],
+}
+
+impl Scripted<'_> {
+    fn next(&mut self) -> io::Result<usize> {
+        match self.answers.split_first() {
+            Some((first, others)) => {
+                self.answers = others;
+                match *first {
+                    Ok(count) => Ok(count),
+                    Err(kind) => Err(io::Error::from(kind)),
+                }
+            }
+            None => Ok(0),
+        }
+    }
+}
+
+impl io::Read for Scripted<'_> {
+    fn read(&mut self, into: &mut [u8]) -> io::Result<usize> {
+        let count = self.next()?.min(into.len());
+        for place in into[..count].iter_mut() {
+            *place = b'x';
+        }
+        Ok(count)
+    }
+}
+
+impl io::Write for Scripted<'_> {
+    fn write(&mut self, piece: &[u8]) -> io::Result<usize> {
+        Ok(self.next()?.min(piece.len()))
+    }
+
+    fn flush(&mut self) -> io::Result<()> {
+        Ok(())
+    }
+}
+
+#[test]
+fn an_error_of_a_reader_counts_and_an_interrupted_read_is_made_again(
+    rt: HostRuntime,
+) -> Result<(), Fail> {
+    let answers = [
+        Ok(2),
+        Err(ErrorKind::Interrupted),
+        Err(ErrorKind::Interrupted),
+        Ok(1),
+        Err(ErrorKind::BrokenPipe),
+        Ok(3),
+        Err(ErrorKind::Interrupted),
+    ];
+    let mut source = ReaderSource::new(Scripted { answers: &answers });
+    let mut buffer = [0; 8];
+    for (wanted, faults) in [
+        (Read::Got(2), 0),
+        (Read::Got(1), 0),
+        (Read::Failed, 1),
+        (Read::Got(3), 1),
+        (Read::End, 1),
+    ] {
+        assert_eq!(rt; source.read(&mut buffer), wanted);
+        assert_eq!(rt; source.faults(), faults, "{wanted:?}");
+    }
+    Ok(())
+}
+
+#[test]
+fn an_error_of_a_writer_counts_and_so_does_a_write_of_nothing(
+    rt: HostRuntime,
+) -> Result<(), Fail> {
+    let answers = [
+        Ok(9),
+        Err(ErrorKind::Interrupted),
+        Ok(2),
+        Err(ErrorKind::BrokenPipe),
+        Ok(0),
+        Ok(1),
+    ];
+    let mut sink = WriterSink::new(Scripted { answers: &answers });
+    for (wanted, faults) in [
+        (Write::Wrote(4), 0),
+        (Write::Wrote(2), 0),
+        (Write::Failed, 1),
+        (Write::Failed, 2),
+        (Write::Wrote(1), 2),
+    ] {
+        assert_eq!(rt; sink.write(b"abcd"), wanted);
+        assert_eq!(rt; sink.faults(), faults, "{wanted:?}");
+    }
+    Ok(())
+}
+
+#[test]
+fn a_file_is_read_back_through_its_source(rt: HostRuntime) -> Result<(), Fail> {
+    let alloc = rt.alloc();
+    let mut path = env::temp_dir(&rt)?;
+    path.push("outside_std_reads_back.txt")?;
+    let path = path.as_path().to_str().ok_or("the path is no text")?;
+    fs::write(&rt, path, "neighbor 192.0.2.1\n")?;
+    let mut files = StdFiles::new(&rt);
+    let Opened::Open(mut source) = files.open(path) else {
+        return Err(Fail::from("the file wasn't opened"));
+    };
+    let bytes = read_all(alloc, &mut source, 100)?;
+    assert_eq!(rt; bytes.as_slice(), b"neighbor 192.0.2.1\n".as_slice());
+    files.give_back(source);
+    assert_eq!(rt; files.faults(), 0);
+    fs::remove_file(&rt, path)?;
+    assert!(rt; matches!(files.open(path), Opened::Failed));
+    assert_eq!(rt; files.faults(), 1);
+    Ok(())
+}
+
+#[test]
+fn a_folder_opens_and_fails_to_be_read(rt: HostRuntime) -> Result<(), Fail> {
+    let mut files = StdFiles::new(&rt);
+    let Opened::Open(mut source) = files.open("/") else {
+        return Err(Fail::from("the folder wasn't opened"));
+    };
+    assert_eq!(rt; read_all(rt.alloc(), &mut source, 100).err(), Some(Unread::Fault));
+    files.give_back(source);
+    assert_eq!(rt; files.faults(), 1);
+    Ok(())
+}
+
+#[test]
+fn the_standard_streams_are_read_and_written(rt: HostRuntime) -> Result<(), Fail> {
+    let mut input = StdInput::new(rt.stdin());
+    let bytes = read_all(rt.alloc(), &mut input, 100)?;
+    assert_eq!(rt; bytes.len(), 0);
+    let mut output = StdOutput::new(rt.stdout());
+    write_all(&mut output, b"written\n")?;
+    assert_eq!(rt; output.faults(), 0);
+    Ok(())
+}
