@@ -7,3 +7,5 @@ pub mod SaidLemmas
 pub mod AnnouncedLemmas
 pub mod FamilyLemmas
 pub mod HereLemmas
+pub mod GoneLemmas
+pub mod MarkerLemmas

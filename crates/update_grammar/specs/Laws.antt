@@ -1,7 +1,8 @@
 -- The laws between what is written and what is read.
-use Rattle.std.specs.Prelude.{◌^◌, ◌<◌, List, [], length}
+use Rattle.std.specs.Prelude.{ℕ, ◌≡◌, ◌≢◌, ◌^◌, ◌<◌, List, [], ◌∷◌, length}
 use Rattle.std.specs.List.{AllByRecursion}
 use Rattle.route_values.specs.declared.addr.Family.{Family}
+use Rattle.route_values.specs.declared.addr.Family.TheVariants.{Ipv4, Ipv6}
 use Rattle.route_values.specs.declared.attrs.WireAttrs.{WireAttrs}
 use Rattle.route_values.specs.declared.caps.Caps.{Caps}
 use Rattle.route_values.specs.declared.key.Key.{Key}
@@ -22,3 +23,19 @@ GoneIsSpelled family = (caps : Caps) (keys : List Key) → AllByRecursion (IsCar
 -- the marker of a family spells no effect
 abbrev pub EndIsSpelled : Family → Type 0
 EndIsSpelled family = (caps : Caps) → Spells caps (body_of (written caps (head.End family) [])) []
+
+-- the markers of the two families have different texts
+abbrev pub MarkersDiffer : Type 0
+MarkersDiffer = (caps other : Caps) → written caps (head.End Ipv4) [] ≢ written other (head.End Ipv6) []
+
+-- the text of a marker of either family
+abbrev pub IsMarker : List ℕ → Type 0
+IsMarker bytes = (caps : Caps) × (family : Family) × (bytes ≡ written caps (head.End family) [])
+
+-- no announcement has the text of a marker
+abbrev pub HereIsNoMarker : Type 0
+HereIsNoMarker = (caps : Caps) (family : Family) (w : WireAttrs) (keys : List Key) → ¬ (IsMarker (written caps (head.Here family w) keys))
+
+-- no withdrawal of at least one key has the text of a marker
+abbrev pub GoneIsNoMarker : Type 0
+GoneIsNoMarker = (caps : Caps) (family : Family) (key : Key) (keys : List Key) → ¬ (IsMarker (written caps (head.Gone family) (key ∷ keys)))
