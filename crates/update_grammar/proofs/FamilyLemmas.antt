@@ -1,5 +1,5 @@
 -- The values of MP_REACH_NLRI and MP_UNREACH_NLRI as they are written (RFC 4760, sections 3 and 4).
-use Rattle.std.proofs.Common.{ℕ, ◌≡◌, ◌≢◌, ◌⊎◌, ◌^◌, ◌<◌, Bool, true, false, List, [], ◌∷◌, ◌++◌, length, arith, ap, sym, ◌∙◌, refl, inl, inr, Option, Some, None}
+use Rattle.std.proofs.Common.{ℕ, ◌≡◌, ◌≢◌, ◌⊎◌, true, false, List, [], ◌∷◌, ◌++◌, length, arith, ap, sym, ◌∙◌, refl, inl, inr, Some, None}
 use Rattle.std.specs.List.{AllByRecursion}
 use Rattle.route_values.specs.declared.addr.Addr.{Addr}
 use Rattle.route_values.specs.declared.addr.Addr.TheVariants.{V4, V6}
@@ -33,6 +33,7 @@ not_of_session : (caps : Caps) → has_family caps Ipv6 ≡ false → (f : Famil
 not_of_session caps off Ipv4 on same = cc
 not_of_session caps off Ipv6 on same = cc
 
+-- such a value is of another session's family
 elsewhere : (caps : Caps) (rest : List ℕ) → has_family caps Ipv6 ≡ false → IsElsewhere caps (family_text Ipv6 ++ rest)
 elsewhere caps rest off = record { family = family_text Ipv6; rest = rest; text = refl; three = refl; other = not_of_session caps off }
 

@@ -1,5 +1,5 @@
 -- Withdrawals and markers that are written are spelled again.
-use Rattle.std.proofs.Common.{ℕ, ◌≡◌, ◌≢◌, ◌+◌, ◌^◌, ◌<◌, ◌≤◌, Bool, true, false, List, [], ◌∷◌, ◌++◌, length, map, arith, length-append, append-nil, ap, sym, ◌∙◌, refl, subst, Option, Some, None}
+use Rattle.std.proofs.Common.{ℕ, ◌≡◌, ◌^◌, ◌<◌, Bool, true, false, List, [], ◌∷◌, ◌++◌, length, arith, length-append, append-nil, sym, refl, subst, Option, Some, None}
 use Rattle.std.specs.List.{flat_map, AllByRecursion}
 use Rattle.route_values.specs.declared.addr.Family.{Family}
 use Rattle.route_values.specs.declared.addr.Family.TheVariants.{Ipv4, Ipv6}

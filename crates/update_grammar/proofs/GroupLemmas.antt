@@ -1,14 +1,14 @@
 -- Attributes of one code, of which there is one or none, and what they say.
-use Rattle.std.proofs.Common.{ℕ, ◌≡◌, ◌^◌, ◌<◌, Bool, true, false, List, [], ◌∷◌, ◌++◌, length, refl, inl, inr, ◌⊎◌, Option, Some, None}
+use Rattle.std.proofs.Common.{ℕ, ◌≡◌, ◌^◌, ◌<◌, Bool, true, false, List, [], ◌∷◌, length, refl, inr, Option, Some, None}
 use Rattle.std.specs.Option.{IfSome}
-use Rattle.std.specs.List.{flat_map, AllByRecursion}
+use Rattle.std.specs.List.{AllByRecursion}
 use Rattle.route_values.specs.declared.caps.Caps.{Caps}
 use Rattle.update_grammar.specs.declared.effect.Attr.{Attr}
 use Rattle.update_grammar.specs.declared.effect.Attr.TheVariants as says
-use Rattle.update_grammar.specs.Attributes.{Raw, IsRaw, AreApart, IsPassedOver}
-use Rattle.update_grammar.specs.Meanings.{Means, MeansAll}
+use Rattle.update_grammar.specs.Attributes.{Raw, IsRaw, AreApart}
+use Rattle.update_grammar.specs.Meanings.{Is, Means, MeansAll}
 use Rattle.update_grammar.specs.Written.{raw, raw_if, raw_some, raw_when}
-use Rattle.update_grammar.proofs.RawLemmas.{IsPlain, raw_fits}
+use Rattle.update_grammar.proofs.RawLemmas.{IsPlain, raw_fits, raw_is_of}
 
 -- the code of the attribute that says this
 abbrev pub code_of : Attr → ℕ
@@ -33,7 +33,7 @@ pub record Group (caps : Caps) (code : ℕ) (raws : List Raw) (said : List Attr)
   pub coded : AllByRecursion (λ a. a.code ≡ code) raws
   pub apart : AreApart raws
   pub meant : MeansAll caps raws said
-  pub told : AllByRecursion (λ s. code_of s ≡ code) said
+  pub told : AllByRecursion (λ attr. code_of attr ≡ code) said
 
 -- what is said of a matter that may be absent
 abbrev pub said_if : {V : Type 0} → (V → Attr) → Option V → List Attr
@@ -49,6 +49,10 @@ said_some say (v ∷ vs) = say (v ∷ vs) ∷ []
 abbrev pub said_when : Attr → Bool → List Attr
 said_when attr true = attr ∷ []
 said_when attr false = []
+
+-- a written attribute has its flags, its code and its value
+pub written_is : (flags code : ℕ) (value : List ℕ) → IsPlain flags → Is (raw flags code value) flags code value
+written_is flags code value plain = (raw_is_of flags code value plain, refl)
 
 -- no attribute
 pub group_none : (caps : Caps) (code : ℕ) → Group caps code [] []
@@ -66,17 +70,17 @@ group_one caps flags code value attr plain small means told = record {
 }
 
 -- one attribute or none, as a matter is there or not
-pub group_if : {V : Type 0} (caps : Caps) (text : V → List ℕ) (flags code : ℕ) (say : V → Attr) (Fit : V → Type 0) → IsPlain flags → code < 256 → ((v : V) → Fit v → Means caps (raw flags code (text v)) (say v))
+pub group_if : {V : Type 0} (caps : Caps) (text : V → List ℕ) (flags code : ℕ) (say : V → Attr) (Fit : V → Type 0) → IsPlain flags → code < 256 → ((v : V) → Is (raw flags code (text v)) flags code (text v) → Fit v → Means caps (raw flags code (text v)) (say v))
     → ((v : V) → code_of (say v) ≡ code) → (matter : Option V) → IfSome matter Fit → Group caps code (raw_if text flags code matter) (said_if say matter)
 group_if caps text flags code say Fit plain small means told None fit = group_none caps code
-group_if caps text flags code say Fit plain small means told (Some v) fit = group_one caps flags code (text v) (say v) plain small (means v fit) (told v)
+group_if caps text flags code say Fit plain small means told (Some v) fit = group_one caps flags code (text v) (say v) plain small (means v (written_is flags code (text v) plain) fit) (told v)
 
 -- one attribute or none, as a list has items or not
 pub group_some : {V : Type 0} (caps : Caps) (text : List V → List ℕ) (flags code : ℕ) (say : List V → Attr) (Fit : List V → Type 0) → IsPlain flags → code < 256
-    → ((vs : List V) → Fit vs → Means caps (raw flags code (text vs)) (say vs)) → ((vs : List V) → code_of (say vs) ≡ code) → (items : List V) → Fit items
+    → ((vs : List V) → Is (raw flags code (text vs)) flags code (text vs) → Fit vs → Means caps (raw flags code (text vs)) (say vs)) → ((vs : List V) → code_of (say vs) ≡ code) → (items : List V) → Fit items
     → Group caps code (raw_some text flags code items) (said_some say items)
 group_some caps text flags code say Fit plain small means told [] fit = group_none caps code
-group_some caps text flags code say Fit plain small means told (v ∷ vs) fit = group_one caps flags code (text (v ∷ vs)) (say (v ∷ vs)) plain small (means (v ∷ vs) fit) (told (v ∷ vs))
+group_some caps text flags code say Fit plain small means told (v ∷ vs) fit = group_one caps flags code (text (v ∷ vs)) (say (v ∷ vs)) plain small (means (v ∷ vs) (written_is flags code (text (v ∷ vs)) plain) fit) (told (v ∷ vs))
 
 -- one attribute or none, as a mark stands or not
 pub group_when : (caps : Caps) (flags code : ℕ) (attr : Attr) → IsPlain flags → code < 256 → Means caps (raw flags code []) attr → code_of attr ≡ code → (stands : Bool)

@@ -1,11 +1,11 @@
 -- Groups of rising codes, joined.
-use Rattle.std.proofs.Common.{ℕ, ◌≡◌, ◌≢◌, ◌^◌, ◌<◌, Bool, true, false, ◌||◌, List, [], ◌∷◌, ◌++◌, length, arith, ap, sym, ◌∙◌, refl, subst, inl, inr, ◌⊎◌, Option, Some, None, eqb, if◌then◌else◌}
+use Rattle.std.proofs.Common.{ℕ, ◌≡◌, ◌≢◌, ◌^◌, ◌<◌, Bool, true, false, ◌||◌, List, [], ◌∷◌, ◌++◌, length, arith, ap, sym, ◌∙◌, refl, subst, inl, inr, Option, Some, None, eqb, if◌then◌else◌}
 use Rattle.std.proofs.lemmas.Bool.{eqb-true, eqb-false}
 use Rattle.std.specs.List.{flat_map, list_any, AllByRecursion}
 use Rattle.route_values.specs.declared.caps.Caps.{Caps}
 use Rattle.update_grammar.specs.declared.effect.Attr.{Attr}
-use Rattle.update_grammar.specs.Attributes.{Raw, IsRaw, AreApart, IsPassedOver}
-use Rattle.update_grammar.specs.Meanings.{Means, MeansAll}
+use Rattle.update_grammar.specs.Attributes.{Raw, IsRaw, AreApart}
+use Rattle.update_grammar.specs.Meanings.{MeansAll}
 use Rattle.update_grammar.specs.Update.{first_of, said_first}
 use Rattle.update_grammar.proofs.PiecesLemmas.{all_append, all_map}
 use Rattle.update_grammar.proofs.RawLemmas.{apart_append}
@@ -55,12 +55,12 @@ groups_meant caps raws said [] groups = refl
 groups_meant caps raws said (code ∷ codes) groups = means_append caps (raws code) (flat_map raws codes) (said code) (flat_map said codes) groups.0.meant (groups_meant caps raws said codes groups.1)
 
 -- what is said in a group has the group's code
-pub groups_told : (caps : Caps) (raws : ℕ → List Raw) (said : ℕ → List Attr) (codes : List ℕ) → AreGroups caps raws said codes → AllByRecursion (λ code. AllByRecursion (λ s. code_of s ≡ code) (said code)) codes
-groups_told caps raws said codes groups = all_map (λ code. Group caps code (raws code) (said code)) (λ code. AllByRecursion (λ s. code_of s ≡ code) (said code)) (λ code group. group.told) codes groups
+pub groups_told : (caps : Caps) (raws : ℕ → List Raw) (said : ℕ → List Attr) (codes : List ℕ) → AreGroups caps raws said codes → AllByRecursion (λ code. AllByRecursion (λ attr. code_of attr ≡ code) (said code)) codes
+groups_told caps raws said codes groups = all_map (λ code. Group caps code (raws code) (said code)) (λ code. AllByRecursion (λ attr. code_of attr ≡ code) (said code)) (λ code group. group.told) codes groups
 
 -- a question that attributes of one code alone answer
 abbrev pub Sees : {V : Type 0} → (Attr → Option V) → ℕ → Type 0
-Sees asks code = (s : Attr) → code_of s ≢ code → asks s ≡ None
+Sees asks code = (attr : Attr) → code_of attr ≢ code → asks attr ≡ None
 
 -- of three answers the first counts, however they are joined
 first_twice : {V : Type 0} (one two three : Option V) → first_of one (first_of two three) ≡ first_of (first_of one two) three
@@ -73,10 +73,10 @@ first_append asks [] ys = refl
 first_append asks (x ∷ xs) ys = ap (first_of (asks x)) (first_append asks xs ys) ∙ first_twice (asks x) (said_first asks xs) (said_first asks ys)
 
 -- a group of another code answers nothing
-group_silent : {V : Type 0} (asks : Attr → Option V) (code other : ℕ) → Sees asks code → other ≢ code → (said : List Attr) → AllByRecursion (λ s. code_of s ≡ other) said → said_first asks said ≡ None
+group_silent : {V : Type 0} (asks : Attr → Option V) (code other : ℕ) → Sees asks code → other ≢ code → (said : List Attr) → AllByRecursion (λ attr. code_of attr ≡ other) said → said_first asks said ≡ None
 group_silent asks code other sees differ [] told = refl
-group_silent asks code other sees differ (s ∷ said) told =
-    ap (λ word. first_of word (said_first asks said)) (sees s (λ same. differ (sym told.0 ∙ same))) ∙ group_silent asks code other sees differ said told.1
+group_silent asks code other sees differ (attr ∷ said) told =
+    ap (λ word. first_of word (said_first asks said)) (sees attr (λ same. differ (sym told.0 ∙ same))) ∙ group_silent asks code other sees differ said told.1
 
 -- a word that is given twice, or once and then not, is that word
 first_same : {V : Type 0} (word : Option V) (again : Bool) → first_of word (if again then word else None) ≡ word
@@ -85,15 +85,15 @@ first_same None false = refl
 first_same (Some word) again = refl
 
 -- the first of joined groups answers where it has the code, and else those behind it do
-group_answers_one : {V : Type 0} (asks : Attr → Option V) (code : ℕ) (said : ℕ → List Attr) → Sees asks code → (other : ℕ) → AllByRecursion (λ s. code_of s ≡ other) (said other) → (later : Bool) (is : Bool) → eqb other code ≡ is
+group_answers_one : {V : Type 0} (asks : Attr → Option V) (code : ℕ) (said : ℕ → List Attr) → Sees asks code → (other : ℕ) → AllByRecursion (λ attr. code_of attr ≡ other) (said other) → (later : Bool) (is : Bool) → eqb other code ≡ is
     → first_of (said_first asks (said other)) (if later then said_first asks (said code) else None) ≡ (if is || later then said_first asks (said code) else None)
 group_answers_one asks code said sees other told later true is =
-    ap (λ c. first_of (said_first asks (said c)) (if later then said_first asks (said code) else None)) (eqb-true other code is) ∙ first_same (said_first asks (said code)) later
+    ap (λ there. first_of (said_first asks (said there)) (if later then said_first asks (said code) else None)) (eqb-true other code is) ∙ first_same (said_first asks (said code)) later
 group_answers_one asks code said sees other told later false is =
     ap (λ word. first_of word (if later then said_first asks (said code) else None)) (group_silent asks code other sees (eqb-false other code is) (said other) told)
 
 -- of joined groups the one of the code that a question asks for answers it
-pub group_answers : {V : Type 0} (asks : Attr → Option V) (code : ℕ) (said : ℕ → List Attr) → Sees asks code → (codes : List ℕ) → AllByRecursion (λ other. AllByRecursion (λ s. code_of s ≡ other) (said other)) codes
+pub group_answers : {V : Type 0} (asks : Attr → Option V) (code : ℕ) (said : ℕ → List Attr) → Sees asks code → (codes : List ℕ) → AllByRecursion (λ other. AllByRecursion (λ attr. code_of attr ≡ other) (said other)) codes
     → said_first asks (flat_map said codes) ≡ (if list_any (λ other. eqb other code) codes then said_first asks (said code) else None)
 group_answers asks code said sees [] told = refl
 group_answers asks code said sees (other ∷ codes) told =

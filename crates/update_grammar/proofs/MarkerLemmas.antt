@@ -1,5 +1,5 @@
 -- The markers are told apart from each other and from every other message.
-use Rattle.std.proofs.Common.{ℕ, ◌≡◌, ◌≢◌, ◌+◌, ◌^◌, ◌<◌, ◌≤◌, ◌%◌, Bool, true, false, List, [], ◌∷◌, ◌++◌, length, get_or, arith, length-append, append-nil, ap, sym, ◌∙◌, refl, if◌then◌else◌}
+use Rattle.std.proofs.Common.{ℕ, ◌≡◌, ◌≢◌, ◌+◌, ◌<◌, ◌≤◌, ◌%◌, Bool, true, false, List, [], ◌∷◌, ◌++◌, length, get_or, arith, length-append, ap, if◌then◌else◌}
 use Rattle.std.specs.List.{flat_map}
 use Rattle.std.specs.Int.{w16, to_be_bytes}
 use Rattle.route_values.specs.declared.addr.Family.{Family}
@@ -7,13 +7,13 @@ use Rattle.route_values.specs.declared.addr.Family.TheVariants.{Ipv4, Ipv6}
 use Rattle.route_values.specs.declared.attrs.WireAttrs.{WireAttrs}
 use Rattle.route_values.specs.declared.caps.Caps.{Caps}
 use Rattle.route_values.specs.declared.key.Key.{Key}
-use Rattle.update_grammar.specs.Prefixes.{key_text, keys_text, block_text}
+use Rattle.update_grammar.specs.Prefixes.{keys_text}
 use Rattle.update_grammar.specs.Attributes.{Raw, raw_text, raw_head, transitive, optional, is_extended}
 use Rattle.update_grammar.specs.Families.{family_text}
-use Rattle.update_grammar.specs.Values.{path_text, origin_number}
+use Rattle.update_grammar.specs.Values.{path_text}
 use Rattle.update_grammar.specs.Head as head
 use Rattle.update_grammar.specs.Laws.{IsMarker, MarkersDiffer, HereIsNoMarker, GoneIsNoMarker}
-use Rattle.update_grammar.specs.Written.{written, attributes_text, raw, hop_raws, more_raws, flags_for, unreach_text}
+use Rattle.update_grammar.specs.Written.{written, attributes_text, raw, hop_raws, more_raws, unreach_text}
 
 -- a marker has at most 29 bytes
 length_marker : (caps : Caps) (family : Family) → length (written caps (head.End family) []) ≤ 29
@@ -27,10 +27,11 @@ long_is_none bytes long marker =
     let short : length (written marker.0 (head.End marker.1) []) ≤ 29 = length_marker marker.0 marker.1 in
     omega arith
 
--- an attribute has at least three bytes besides its value
+-- three bytes or more stand before the value of an attribute
 length_head : (flags code len : ℕ) → 3 ≤ length (raw_head flags code len)
 length_head flags code len = elim (is_extended flags) as (λ long. 3 ≤ length (flags ∷ code ∷ (if long then to_be_bytes w16 len else len ∷ []))) [ true ↦ omega arith | false ↦ omega arith ]
 
+-- so an attribute is that much longer than its value
 length_raw : (a : Raw) → length a.value + 3 ≤ length (raw_text a)
 length_raw a =
     let parts : length (raw_text a) ≡ length (raw_head a.flags a.code (length a.value)) + length a.value = length-append (raw_head a.flags a.code (length a.value)) a.value in
@@ -45,6 +46,7 @@ length_attributes family w prefixes =
     let rest : List ℕ = flat_map raw_text (hop_raws family w.hop ++ more_raws family w prefixes) in
     omega (arith, length-append (raw_text path) rest, length_raw path)
 
+-- an announcement is longer than a marker
 here_long : (caps : Caps) (family : Family) (w : WireAttrs) (keys : List Key) → 29 < length (written caps (head.Here family w) keys)
 here_long caps Ipv4 w keys = omega (arith, length-append (attributes_text Ipv4 w []) (keys_text caps.ipv4_path keys), length_attributes Ipv4 w [])
 here_long caps Ipv6 w keys =
@@ -82,5 +84,6 @@ pub gone_is_no_marker : GoneIsNoMarker
 gone_is_no_marker caps Ipv4 key keys marker = gone_ipv4_is_none caps marker.0 key keys marker.1 marker.2
 gone_is_no_marker caps Ipv6 key keys marker = long_is_none (written caps (head.Gone Ipv6) (key ∷ keys)) (gone_long caps key keys) marker
 
+-- the markers have different lengths
 pub markers_differ : MarkersDiffer
 markers_differ caps other same = let lengths = ap length same in omega arith

@@ -1,5 +1,5 @@
 -- Prefixes and keys that are written are read again.
-use Rattle.std.proofs.Common.{ℕ, ◌≡◌, ◌+◌, ◌-◌, ◌*◌, ◌/◌, ◌%◌, ◌^◌, ◌<◌, ◌≤◌, Bool, true, false, List, [], ◌∷◌, ◌++◌, take, arith, length-take, ap, sym, ◌∙◌, refl, subst, inl, inr, zero, suc, ◌⊎◌, if◌then◌else◌}
+use Rattle.std.proofs.Common.{ℕ, ◌≡◌, ◌+◌, ◌-◌, ◌*◌, ◌%◌, ◌^◌, ◌<◌, ◌≤◌, Bool, true, false, List, [], take, arith, length-take, ap, sym, ◌∙◌, refl, inl, inr, zero, suc, ◌⊎◌, if◌then◌else◌}
 use Rattle.std.proofs.Math.Pow.{mod-mod-pow}
 use Rattle.std.proofs.Math.Nat.{div-mul_cancel, zero-mod}
 use Rattle.std.proofs.lemmas.Nat.Gcd.{dvd_of_mod-eq-zero}
@@ -12,8 +12,8 @@ use Rattle.route_values.specs.declared.addr.Family.TheVariants.{Ipv4, Ipv6}
 use Rattle.route_values.specs.declared.caps.Caps.{Caps}
 use Rattle.route_values.specs.declared.key.Key.{Key}
 use Rattle.route_values.specs.Addr.{family_of}
-use Rattle.route_values.specs.Prefix.{Block, IsPrefix}
-use Rattle.route_values.specs.Visible.{has_path, IsVisible}
+use Rattle.route_values.specs.Prefix.{IsPrefix}
+use Rattle.route_values.specs.Visible.{has_path}
 use Rattle.update_grammar.specs.Pieces.{SpellsEach}
 use Rattle.update_grammar.specs.Prefixes.{bytes_for, block_text, key_text, keys_text, first_bits, SpellsId, SpellsBlock, SpellsKey}
 use Rattle.update_grammar.specs.Written.{IsCarried}
@@ -34,6 +34,7 @@ first_of_four n (suc (suc (suc zero))) fits le zeros = omega arith
 first_of_four n (suc (suc (suc (suc zero)))) fits le zeros = omega arith
 first_of_four n (suc (suc (suc (suc (suc k))))) fits le zeros = absurd (omega arith)
 
+-- an IPv4 address that ends in zeros is told by the bytes that hold its first bits
 four_back : (n bits : ℕ) → n < 2 ^ 32 → bits ≤ 32 → n % 2 ^ (32 - bits) ≡ 0 → from_be_bytes w32 (take (bytes_for bits) (to_be_bytes w32 n)) ≡ n
 four_back n bits fits short zeros =
     first_of_four n (bytes_for bits) fits (omega arith) (less_zeros n (32 - bits) (8 * (4 - bytes_for bits)) (omega arith) zeros)
@@ -59,6 +60,7 @@ first_of_sixteen n (suc (suc (suc (suc (suc (suc (suc (suc (suc (suc (suc (suc (
 first_of_sixteen n (suc (suc (suc (suc (suc (suc (suc (suc (suc (suc (suc (suc (suc (suc (suc (suc zero)))))))))))))))) fits le zeros = omega arith
 first_of_sixteen n (suc (suc (suc (suc (suc (suc (suc (suc (suc (suc (suc (suc (suc (suc (suc (suc (suc k))))))))))))))))) fits le zeros = absurd (omega arith)
 
+-- an IPv6 address that ends in zeros is told by the bytes that hold its first bits
 sixteen_back : (n bits : ℕ) → n < 2 ^ 128 → bits ≤ 128 → n % 2 ^ (128 - bits) ≡ 0 → from_be_bytes w128 (take (bytes_for bits) (to_be_bytes w128 n)) ≡ n
 sixteen_back n bits fits short zeros =
     first_of_sixteen n (bytes_for bits) fits (omega arith) (less_zeros n (128 - bits) (8 * (16 - bytes_for bits)) (omega arith) zeros)
@@ -67,6 +69,7 @@ sixteen_back n bits fits short zeros =
 first_bits_kept : (width n bits : ℕ) → n % 2 ^ (width - bits) ≡ 0 → first_bits width bits n ≡ n
 first_bits_kept width n bits zeros = div-mul_cancel (2 ^ (width - bits)) (dvd_of_mod-eq-zero (2 ^ (width - bits)) zeros)
 
+-- an IPv4 prefix is spelled by its text
 block_of_four : (n len : ℕ) → IsPrefix (V4 n) len → SpellsBlock Ipv4 (block_text (record { addr = V4 n; len = len })) (record { addr = V4 n; len = len })
 block_of_four n len canonical =
     let field : List ℕ = take (bytes_for len) (to_be_bytes w32 n) in
@@ -78,6 +81,7 @@ block_of_four n len canonical =
       ap (λ m. V4 m) (sym (ap (first_bits 32 len) is ∙ first_bits_kept 32 n len canonical.zeros)),
     )
 
+-- an IPv6 prefix is spelled by its text
 block_of_sixteen : (n len : ℕ) → IsPrefix (V6 n) len → SpellsBlock Ipv6 (block_text (record { addr = V6 n; len = len })) (record { addr = V6 n; len = len })
 block_of_sixteen n len canonical =
     let field : List ℕ = take (bytes_for len) (to_be_bytes w128 n) in
@@ -101,11 +105,12 @@ id_spelled : (path : Bool) (id : ℕ) → id < 2 ^ 32 → (path ≡ false → id
 id_spelled true id fits none = (refl, fits)
 id_spelled false id fits none = (refl, none refl)
 
--- a key that the session carries has the identifier 0 where the family has no path identifiers
+-- an identifier that is 0 or goes with a path flag is 0 without the flag
 id_none : (path : Bool) (id : ℕ) → (id ≡ 0) ⊎ (path ≡ true) → path ≡ false → id ≡ 0
 id_none path id (inl none) off = none
 id_none path id (inr on) off = cc
 
+-- a key that the session carries has the identifier 0 where the family has no path identifiers
 key_of_family : (caps : Caps) (family : Family) (key : Key) (of : Family) → of ≡ family → (key.id ≡ 0) ⊎ (has_path caps of ≡ true) → has_path caps family ≡ false → key.id ≡ 0
 key_of_family caps family key of is known off = id_none (has_path caps of) key.id known (ap (has_path caps) is ∙ off)
 

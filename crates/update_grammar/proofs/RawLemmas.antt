@@ -1,9 +1,9 @@
 -- Attributes as they are written: their flags, their lengths, and their codes, which rise.
-use Rattle.std.proofs.Common.{ℕ, ◌≡◌, ◌≢◌, ◌+◌, ◌/◌, ◌%◌, ◌^◌, ◌<◌, ◌≤◌, Bool, true, false, List, [], ◌∷◌, ◌++◌, length, arith, length-append, sym, refl, subst, nat_lt, if◌then◌else◌, eqb}
+use Rattle.std.proofs.Common.{ℕ, ◌≡◌, ◌≢◌, ◌+◌, ◌/◌, ◌%◌, ◌^◌, ◌<◌, ◌≤◌, Bool, true, false, List, [], ◌∷◌, ◌++◌, length, arith, length-append, sym, refl, subst, nat_lt, if◌then◌else◌}
 use Rattle.std.proofs.lemmas.Bool.{ltb-false, eq-eqb}
 use Rattle.std.specs.List.{flat_map, AllByRecursion}
 use Rattle.update_grammar.specs.Attributes.{Raw, raw_head, raw_text, is_extended, extended_length, kind, transitive, optional, optional_transitive, IsRaw, IsOf, AreApart}
-use Rattle.update_grammar.specs.Written.{raw, flags_for}
+use Rattle.update_grammar.specs.Written.{raw}
 use Rattle.update_grammar.proofs.PiecesLemmas.{all_append, all_map}
 
 -- flags that have the optional and transitive bits alone
@@ -28,10 +28,12 @@ length_flagged flags plain true n fits short =
     subst (λ b. n < (if b then 2 ^ 16 else 256)) (sym extended) fits
 length_flagged flags plain false n fits short = elim (is_extended flags) as (λ b. n < (if b then 2 ^ 16 else 256)) [ true ↦ fits | false ↦ short refl ]
 
+-- the flags fit a byte
 flags_small : (flags : ℕ) → IsPlain flags → (long : Bool) → (if long then flags + extended_length else flags) < 256
 flags_small flags plain true = omega arith
 flags_small flags plain false = omega arith
 
+-- the extended length bit leaves the optional and transitive bits
 kind_kept : (flags : ℕ) → IsPlain flags → (long : Bool) → kind (if long then flags + extended_length else flags) ≡ kind flags
 kind_kept flags plain true = omega arith
 kind_kept flags plain false = refl
@@ -41,7 +43,7 @@ pub raw_fits : (flags code : ℕ) (value : List ℕ) → IsPlain flags → code 
 raw_fits flags code value plain small short = record {
   flags = flags_small flags plain (nat_lt 255 (length value));
   code = small;
-  length_fits = length_flagged flags plain (nat_lt 255 (length value)) (length value) short (λ h. omega (arith, ltb-false 255 (length value) h));
+  length_fits = length_flagged flags plain (nat_lt 255 (length value)) (length value) short (λ is_short. omega (arith, ltb-false 255 (length value) is_short));
 }
 
 -- an attribute has the kind and the code that it is written with

@@ -1,11 +1,8 @@
 -- What an announcement's attributes say, gathered again.
-use Rattle.std.proofs.Common.{ℕ, ◌≡◌, ◌≢◌, ◌<◌, Bool, true, false, List, [], ◌∷◌, ◌++◌, ap, sym, ◌∙◌, refl, Option, Some, None, eqb, if◌then◌else◌}
+use Rattle.std.proofs.Common.{ℕ, ◌≡◌, Bool, true, false, List, [], ◌∷◌, ap, ◌∙◌, refl, Option, Some, None, eqb, if◌then◌else◌}
 use Rattle.std.specs.Option.{unwrap_or}
 use Rattle.std.specs.List.{flat_map, AllByRecursion}
-use Rattle.route_values.specs.declared.addr.Addr.{Addr}
-use Rattle.route_values.specs.declared.attrs.Origin.{Origin}
 use Rattle.route_values.specs.declared.attrs.WireAttrs.{WireAttrs}
-use Rattle.route_values.specs.declared.path.Segment.{Segment}
 use Rattle.update_grammar.specs.declared.effect.Attr.{Attr}
 use Rattle.update_grammar.specs.declared.effect.Attr.TheVariants as says
 use Rattle.update_grammar.specs.declared.effect.Reached.{Reached}
@@ -40,7 +37,7 @@ said_of w hop reach = flat_map (said_group w hop reach) announced_codes
 
 -- each group has attributes of its code alone
 abbrev pub IsTold : WireAttrs → Option ℕ → Option (Option Reached) → Type 0
-IsTold w hop reach = AllByRecursion (λ code. AllByRecursion (λ s. code_of s ≡ code) (said_group w hop reach code)) announced_codes
+IsTold w hop reach = AllByRecursion (λ code. AllByRecursion (λ attr. code_of attr ≡ code) (said_group w hop reach code)) announced_codes
 
 -- a matter that is there is the answer to the question for it
 first_if : {V : Type 0} (asks : Attr → Option V) (say : V → Attr) → ((v : V) → asks (say v) ≡ Some v) → (matter : Option V) → said_first asks (said_if say matter) ≡ matter
@@ -57,6 +54,7 @@ first_when : (stands : Bool) → unwrap_or (said_first as_atomic (said_when says
 first_when true = refl
 first_when false = refl
 
+-- each question is answered by the attribute of its code alone
 sees_origin : Sees as_origin 1
 sees_origin (says.Origin origin) differ = absurd (differ refl)
 sees_origin _ differ = refl
@@ -120,17 +118,18 @@ gathered_is : (said : List Attr) (w : WireAttrs) → said_first as_med said ≡ 
 gathered_is said w med local_pref atomic aggregator communities originator clusters extended large =
     rw (med, local_pref, atomic, aggregator, communities, originator, clusters, extended, large) refl
 
--- what an announcement's attributes say of origin and path
+-- origin and path are those of w, where they are said
 abbrev pub origin_and_path : (w : WireAttrs) (hop : Option ℕ) (reach : Option (Option Reached)) → said_first as_origin (said_of w hop reach) ≡ Some w.origin → said_first as_path (said_of w hop reach) ≡ Some w.path
     → HasOriginAndPath (said_of w hop reach)
 origin_and_path w hop reach origin_said path_said = record { origin = w.origin; path = w.path; origin_said = origin_said; path_said = path_said }
 
+-- origin and path are there
 pub has_origin_and_path : (w : WireAttrs) (hop : Option ℕ) (reach : Option (Option Reached)) → IsTold w hop reach → HasOriginAndPath (said_of w hop reach)
 unfolding said_of said_group
 has_origin_and_path w hop reach told =
     origin_and_path w hop reach (group_answers as_origin 1 (said_group w hop reach) sees_origin announced_codes told) (group_answers as_path 2 (said_group w hop reach) sees_path announced_codes told)
 
--- an announcement's attributes are gathered again
+-- each matter of w is gathered again
 said_gathered : (w : WireAttrs) (hop : Option ℕ) (reach : Option (Option Reached)) → IsTold w hop reach → w ≡ gathered (said_of w hop reach) w.hop w.origin w.path
 unfolding said_of said_group
 said_gathered w hop reach told =
@@ -148,6 +147,7 @@ said_gathered w hop reach told =
     (ap (λ word. unwrap_or word []) (group_answers as_extended 16 groups sees_extended announced_codes told) ∙ first_some as_extended says.Extended (λ vs. refl) w.extended)
     (ap (λ word. unwrap_or word []) (group_answers as_large 32 groups sees_large announced_codes told) ∙ first_some as_large says.Large (λ vs. refl) w.large)
 
+-- an announcement's attributes are gathered again
 pub said_gathers : (w : WireAttrs) (hop : Option ℕ) (reach : Option (Option Reached)) → IsTold w hop reach → Gathers (said_of w hop reach) w.hop w
 unfolding said_of said_group
 said_gathers w hop reach told =
@@ -157,15 +157,17 @@ said_gathers w hop reach told =
       all = said_gathered w hop reach told;
     }
 
--- what an announcement's attributes say of the next hop, of MP_REACH_NLRI and of MP_UNREACH_NLRI
+-- an announcement's NEXT_HOP is the answer to the question for it
 pub next_hop_said : (w : WireAttrs) (hop : Option ℕ) (reach : Option (Option Reached)) → IsTold w hop reach → said_first as_next_hop (said_of w hop reach) ≡ hop
 unfolding said_of said_group
 next_hop_said w hop reach told = group_answers as_next_hop 3 (said_group w hop reach) sees_next_hop announced_codes told ∙ first_if as_next_hop says.NextHop (λ v. refl) hop
 
+-- and so is its MP_REACH_NLRI
 pub reach_said : (w : WireAttrs) (hop : Option ℕ) (reach : Option (Option Reached)) → IsTold w hop reach → said_first as_reach (said_of w hop reach) ≡ reach
 unfolding said_of said_group
 reach_said w hop reach told = group_answers as_reach 14 (said_group w hop reach) sees_reach announced_codes told ∙ first_if as_reach says.Reach (λ v. refl) reach
 
+-- an announcement has no MP_UNREACH_NLRI
 pub unreach_said : (w : WireAttrs) (hop : Option ℕ) (reach : Option (Option Reached)) → IsTold w hop reach → said_first as_unreach (said_of w hop reach) ≡ None
 unfolding said_of said_group
 unreach_said w hop reach told = group_answers as_unreach 15 (said_group w hop reach) sees_unreach announced_codes told
