@@ -8,3 +8,4 @@ pub mod Update
 pub mod Head
 pub mod Written
 pub mod Net
+pub mod Laws

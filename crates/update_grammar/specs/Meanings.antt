@@ -1,5 +1,5 @@
 -- What path attributes mean (RFC 4271, section 5; RFC 4760; RFC 1997; RFC 4360; RFC 4456; RFC 8092).
-use Rattle.std.specs.Prelude.{ℕ, ◌≡◌, ◌⊎◌, List, [], ◌∷◌, Option, Some, None}
+use Rattle.std.specs.Prelude.{ℕ, ◌≡◌, ◌⊎◌, List, [], ◌∷◌, Some, None}
 use Rattle.std.specs.List.{flat_map, AllByRecursion}
 use Rattle.route_values.specs.declared.caps.Caps.{Caps}
 use Rattle.update_grammar.specs.declared.effect.Attr.{Attr}

@@ -1,5 +1,5 @@
 -- The values of path attributes as bytes (RFC 4271, section 4.3; RFC 6793; RFC 1997; RFC 4360; RFC 4456; RFC 8092).
-use Rattle.std.specs.Prelude.{ℕ, ◌≡◌, ◌^◌, ◌<◌, ◌≤◌, List, [], ◌∷◌, ◌++◌, length, if◌then◌else◌}
+use Rattle.std.specs.Prelude.{ℕ, ◌≡◌, ◌^◌, ◌<◌, ◌≤◌, List, ◌∷◌, ◌++◌, length, if◌then◌else◌}
 use Rattle.std.specs.List.{flat_map, AllByRecursion}
 use Rattle.std.specs.Int.{w32, to_be_bytes}
 use Rattle.route_values.specs.declared.attrs.Aggregator.{Aggregator}

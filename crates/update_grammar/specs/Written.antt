@@ -1,18 +1,17 @@
 -- The one text of each UPDATE message that is written (RFC 4271, sections 4.1 and 4.3; RFC 4760; RFC 4724, section 2).
-use Rattle.std.specs.Prelude.{ℕ, ◌≡◌, ◌+◌, ◌^◌, ◌<◌, ◌≤◌, List, [], ◌∷◌, ◌++◌, length, drop, replicate, nat_lt, if◌then◌else◌, Bool, Option, Some, None, IfSome}
+use Rattle.std.specs.Prelude.{ℕ, ◌≡◌, ◌+◌, ◌^◌, ◌<◌, List, [], ◌∷◌, ◌++◌, length, drop, replicate, nat_lt, if◌then◌else◌, Bool, Option, Some, None, IfSome}
 use Rattle.std.specs.List.{flat_map, AllByRecursion}
 use Rattle.std.specs.Int.{w16, to_be_bytes}
 use Rattle.route_values.specs.declared.addr.Addr.{Addr}
 use Rattle.route_values.specs.declared.addr.Family.{Family}
 use Rattle.route_values.specs.declared.addr.Family.TheVariants.{Ipv4, Ipv6}
-use Rattle.route_values.specs.declared.attrs.Aggregator.{Aggregator}
 use Rattle.route_values.specs.declared.attrs.WireAttrs.{WireAttrs}
 use Rattle.route_values.specs.declared.caps.Caps.{Caps}
 use Rattle.route_values.specs.declared.key.Key.{Key}
 use Rattle.route_values.specs.Addr.{family_of, number_of, bits_of}
 use Rattle.route_values.specs.Key.{family_of_key}
 use Rattle.route_values.specs.Prefix.{IsPrefix}
-use Rattle.route_values.specs.Visible.{has_path, IsVisible}
+use Rattle.route_values.specs.Visible.{IsVisible}
 use Rattle.update_grammar.specs.Head.{Head}
 use Rattle.update_grammar.specs.Head as head
 use Rattle.update_grammar.specs.Prefixes.{addr_bytes, keys_text}

@@ -1,7 +1,5 @@
 //! What attributes and messages say.
-use route_values::{
-    Addr, Aggregator, AsPath, Exts, Key, Keys, Larges, Origin, U32s, WireAttrs,
-};
+use route_values::{Addr, Aggregator, AsPath, Exts, Key, Keys, Larges, Origin, U32s, WireAttrs};
 
 /// What one path attribute says (RFC 4271, section 4.3). Attributes of other codes have no value here: an optional
 /// one is passed over, and any other is a fault.

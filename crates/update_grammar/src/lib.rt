@@ -7,5 +7,7 @@
 #![tactic(auto)]
 
 mod effect;
+mod laws;
 
 pub use effect::{Attr, Effect, Reached};
+pub use laws::written_is_spelled;

@@ -1,0 +1,11 @@
+pub mod PiecesLemmas
+pub mod RawLemmas
+pub mod PrefixLemmas
+pub mod GroupLemmas
+pub mod JoinLemmas
+pub mod SaidLemmas
+pub mod AnnouncedLemmas
+pub mod FamilyLemmas
+pub mod HereLemmas
+pub mod GoneLemmas
+pub mod MarkerLemmas
