@@ -1,0 +1,8 @@
+use Rattle.std.proofs.Common.{arith}
+use Rattle.std.specs.Int.{w32, to_be_bytes}
+use Rattle.std.proofs.lemmas.List.Folds.{length-flat_map-take}
+use Rattle.attr_codec.proofs.writing.lists.put_numbers.Goals as goal
+
+pub append-requires : goal.append-requires
+append-requires c =
+    omega (arith, length-flat_map-take (to_be_bytes w32) c.args.numbers.now c.loop-number.number-index 0 (omega arith))

@@ -1,0 +1,4 @@
+pub mod Buffer
+pub mod Kind
+pub mod Sizes
+pub mod Groups

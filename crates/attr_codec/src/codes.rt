@@ -1,0 +1,88 @@
+//! The numbers of path attributes (RFC 4271, section 4.3).
+//!
+//! ```text
+//! +-------+------+--------------+---------+
+//! | flags | code | length       | value   |
+//! | 1     | 1    | 1, or 2 bytes| length  |
+//! +-------+------+--------------+---------+
+//! ```
+ghost use Rattle.std.specs.Prelude.{◌≡◌};
+ghost use Rattle.attr_codec.specs.Kind.{flags_of};
+
+/// The bit of the flags that says that the length has two bytes (RFC 4271, section 4.3).
+pub const EXTENDED_LENGTH: u8 = 0x10;
+
+/// The greatest length that is written in one byte.
+pub const SHORT_MAX: usize = 255;
+
+/// ORIGIN (RFC 4271, section 5.1.1).
+pub const ORIGIN: u8 = 1;
+/// AS_PATH (RFC 4271, section 5.1.2).
+pub const AS_PATH: u8 = 2;
+/// NEXT_HOP (RFC 4271, section 5.1.3).
+pub const NEXT_HOP: u8 = 3;
+/// MULTI_EXIT_DISC (RFC 4271, section 5.1.4).
+pub const MULTI_EXIT_DISC: u8 = 4;
+/// LOCAL_PREF (RFC 4271, section 5.1.5).
+pub const LOCAL_PREF: u8 = 5;
+/// ATOMIC_AGGREGATE (RFC 4271, section 5.1.6).
+pub const ATOMIC_AGGREGATE: u8 = 6;
+/// AGGREGATOR (RFC 4271, section 5.1.7).
+pub const AGGREGATOR: u8 = 7;
+/// COMMUNITIES (RFC 1997).
+pub const COMMUNITIES: u8 = 8;
+/// ORIGINATOR_ID (RFC 4456, section 8).
+pub const ORIGINATOR_ID: u8 = 9;
+/// CLUSTER_LIST (RFC 4456, section 8).
+pub const CLUSTER_LIST: u8 = 10;
+/// MP_REACH_NLRI (RFC 4760, section 3).
+pub const MP_REACH_NLRI: u8 = 14;
+/// MP_UNREACH_NLRI (RFC 4760, section 4).
+pub const MP_UNREACH_NLRI: u8 = 15;
+/// EXTENDED COMMUNITIES (RFC 4360, section 2).
+pub const EXTENDED_COMMUNITIES: u8 = 16;
+/// LARGE_COMMUNITY (RFC 8092, section 3).
+pub const LARGE_COMMUNITY: u8 = 32;
+
+/// The origins IGP, EGP and INCOMPLETE (RFC 4271, section 4.3).
+pub const IGP: u8 = 0;
+pub const EGP: u8 = 1;
+pub const INCOMPLETE: u8 = 2;
+
+/// The types of a segment of an AS path (RFC 4271, section 4.3).
+pub const AS_SET: u8 = 1;
+pub const AS_SEQUENCE: u8 = 2;
+
+/// The AFI of IPv6 in two bytes, and the SAFI of unicast (RFC 4760, sections 3 and 6).
+pub const IPV6_UNICAST: [u8; 3] = [0, 2, 1];
+
+/// How many bytes an IPv6 next hop has (RFC 2545, section 3).
+pub const IPV6_HOP_LEN: u8 = 16;
+
+/// The byte between the next hop and the prefixes of an MP_REACH_NLRI (RFC 4760, section 3).
+pub const RESERVED: u8 = 0;
+
+/// Which of the two upper bits of its flags an attribute has: optional and transitive (RFC 4271, section 4.3).
+/// A code that isn't listed above is never written.
+#[derive(Clone, Copy, Debug, PartialEq, Eq)]
+pub enum Kind {
+    /// Known to every speaker: transitive alone.
+    WellKnown,
+    /// Not passed on by a speaker that doesn't know it: optional alone.
+    Optional,
+    /// Passed on by a speaker that doesn't know it: both.
+    OptionalTransitive,
+}
+
+impl Kind {
+    /// The flags, without extended length.
+    pub fn flags(self) -> u8
+        ensures { result ≡ flags_of self }
+    {
+        match self {
+            Kind::WellKnown => 0x40,
+            Kind::Optional => 0x80,
+            Kind::OptionalTransitive => 0xC0,
+        }
+    }
+}

@@ -1,0 +1,91 @@
+//! The buffer that a message is written into.
+ghost use Rattle.std.specs.Prelude.{◌≡◌, ◌+◌, ◌≤◌, [], ◌++◌, length, take, drop};
+ghost use Rattle.std.specs.Int.{w16, to_be_bytes};
+
+use arrayvec::ArrayVec;
+use std::marker::Model;
+
+/// The greatest length of a message (RFC 8654, section 4).
+const MAX_MESSAGE: usize = 65_535;
+
+/// Where the length of the whole message stands in its header (RFC 4271, section 4.1).
+const LEN_START: usize = 16;
+const LEN_END: usize = 18;
+
+/// A buffer for one message, with a room of its own: how many bytes may stand in it, at most 65,535. It takes 64 KB
+/// wherever it lies, so lend it.
+#[derive(Drop)]
+pub struct Message {
+    bytes: ArrayVec<u8, MAX_MESSAGE>,
+    room: usize,
+}
+
+impl Model for Message {
+    ghost use Rattle.std.specs.Prelude.{◌≤◌, length};
+    ghost use Rattle.attr_codec.specs.Buffer.{Buffer};
+
+    ghost Value = { Buffer };
+
+    ghost view = { λ m. record { bytes = m.bytes.items; room = m.room } };
+
+    ghost invariant = { λ m. (length m.bytes.items ≤ m.room) × (m.room ≤ 65535) };
+}
+
+impl Message {
+    ghost use Rattle.attr_codec.specs.Buffer.{Buffer, HasRoom, Appended};
+
+    /// An empty buffer with room for so many bytes.
+    pub fn new(room: usize) -> Message
+        requires { room ≤ 65535 }
+        ensures { result ≡ record { bytes = []; room = room } }
+    {
+        Message {
+            bytes: ArrayVec::new(),
+            room,
+        }
+    }
+
+    /// The bytes so far.
+    pub fn bytes(&self) -> &[u8]
+        ensures value { result.now ≡ self.now.bytes }
+        ensures fits { length result.now ≤ self.now.room }
+        ensures small { self.now.room ≤ 65535 }
+    {
+        self.bytes.as_slice()
+    }
+
+    /// How many more bytes fit.
+    pub fn spare(&self) -> usize
+        ensures room { result + length self.now.bytes ≡ self.now.room }
+        ensures small { self.now.room ≤ 65535 }
+    {
+        self.room - self.bytes.len()
+    }
+
+    /// Takes all bytes out; the room stays.
+    pub fn clear(&mut self)
+        ensures { self.new ≡ record self.old { bytes = [] } }
+    {
+        self.bytes.clear();
+    }
+
+    /// Puts bytes at the end.
+    pub fn append(&mut self, piece: &[u8])
+        requires { HasRoom self.old (length piece.now) }
+        ensures { Appended self.old self.new piece.now }
+    {
+        let _ = self.bytes.try_extend_from_slice(piece);
+    }
+
+    /// Writes how many bytes there are into the header (RFC 4271, section 4.1).
+    pub fn seal(&mut self)
+        requires { 18 ≤ length self.old.bytes }
+        ensures { self.new ≡ record self.old {
+          bytes = take 16 self.old.bytes ++ (to_be_bytes w16 (length self.old.bytes) ++ drop 18 self.old.bytes);
+        } }
+    {
+        let len = self.bytes.len() as u16;
+        let cells = self.bytes.as_mut_slice();
+        cells[LEN_START..LEN_END].copy_from_slice(&len.to_be_bytes());
+    }
+}

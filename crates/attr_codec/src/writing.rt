@@ -1,0 +1,144 @@
+//! Writes path attributes.
+ghost use Rattle.std.specs.Prelude.{◌≡◌, ◌+◌, ◌≤◌, ◌↔◌, [], All, length, IsTrue};
+ghost use Rattle.std.specs.Bool.{OnTrue, OnFalse};
+ghost use Rattle.route_values.specs.Addr.{family_of};
+ghost use Rattle.update_grammar.specs.Written.{attributes_text, unreach_text, raw_when, raw_if};
+ghost use Rattle.update_grammar.specs.Values.{origin_number, aggregator_text};
+ghost use Rattle.attr_codec.specs.Buffer.{HasRoom, Appended};
+ghost use Rattle.attr_codec.specs.Groups.{raws_text, first_text, second_text, third_text, last_text};
+ghost use Rattle.attr_codec.specs.Sizes.{IsShort};
+
+mod head;
+mod hop;
+mod lengths;
+mod lists;
+mod path;
+
+use crate::codes::{
+    AGGREGATOR, ATOMIC_AGGREGATE, CLUSTER_LIST, COMMUNITIES, EGP, EXTENDED_COMMUNITIES, IGP,
+    INCOMPLETE, IPV6_UNICAST, Kind, LARGE_COMMUNITY, LOCAL_PREF, MP_UNREACH_NLRI, MULTI_EXIT_DISC,
+    ORIGIN, ORIGINATOR_ID,
+};
+use crate::message::Message;
+use head::{put_head, put_number, put_plain};
+use hop::{put_next_hop, put_reach_head};
+use lists::{put_exts, put_larges, put_u32s};
+use path::put_path;
+use route_values::{Aggregator, Family, Origin, WireAttrs};
+
+pub use lengths::attrs_len;
+
+/// Puts the attributes of an announcement at the end, in rising order of their codes (RFC 4271, section 5, and
+/// appendix F.4), where they fit. An extended length is used exactly where a value passes 255 bytes. For IPv6 the
+/// MP_REACH_NLRI is among them, without prefixes (RFC 4760, section 3), and there is no NEXT_HOP. Answers false, with
+/// `out` as it was, exactly where they don't fit.
+pub fn put_attrs(out: &mut Message, attrs: &WireAttrs, family: Family) -> bool
+    requires hop { family_of attrs.now.hop ≡ family }
+    requires short { All IsShort attrs.now.path }
+    ensures fits { IsTrue result ↔ HasRoom out.old (length (attributes_text family attrs.now [])) }
+    ensures ok { OnTrue result (Appended out.old out.new (attributes_text family attrs.now [])) }
+    ensures refused { OnFalse result (out.new ≡ out.old) }
+{
+    if attrs_len(attrs, family) > out.spare() {
+        return false;
+    }
+    append_attrs(out, attrs, family);
+    true
+}
+
+/// Puts the attributes of an announcement at the end, as [`put_attrs`] does, where the caller knows that they fit.
+pub fn append_attrs(out: &mut Message, attrs: &WireAttrs, family: Family)
+    requires hop { family_of attrs.now.hop ≡ family }
+    requires short { All IsShort attrs.now.path }
+    requires room { out.old.room ≤ 65535 }
+    requires fits { HasRoom out.old (length (attributes_text family attrs.now [])) }
+    ensures { Appended out.old out.new (attributes_text family attrs.now []) }
+{
+    put_first(out, attrs);
+    put_second(out, attrs);
+    put_third(out, attrs);
+    put_last(out, attrs);
+}
+
+/// Puts an MP_UNREACH_NLRI of IPv6 without prefixes at the end (RFC 4760, section 4).
+pub fn append_unreach(out: &mut Message)
+    requires { HasRoom out.old 6 }
+    ensures { Appended out.old out.new (unreach_text []) }
+{
+    put_plain(out, Kind::Optional, MP_UNREACH_NLRI, &IPV6_UNICAST);
+}
+
+// ORIGIN, AS_PATH and NEXT_HOP.
+fn put_first(out: &mut Message, attrs: &WireAttrs)
+    requires short { All IsShort attrs.now.path }
+    requires room { out.old.room ≤ 65535 }
+    requires fits { HasRoom out.old (length (first_text (family_of attrs.now.hop) attrs.now)) }
+    ensures { Appended out.old out.new (first_text (family_of attrs.now.hop) attrs.now) }
+{
+    put_plain(out, Kind::WellKnown, ORIGIN, &[origin_byte(attrs.origin)]);
+    put_path(out, &attrs.path);
+    put_next_hop(out, attrs.hop);
+}
+
+// MULTI_EXIT_DISC, LOCAL_PREF, ATOMIC_AGGREGATE and AGGREGATOR.
+fn put_second(out: &mut Message, attrs: &WireAttrs)
+    requires { HasRoom out.old (length (second_text attrs.now)) }
+    ensures { Appended out.old out.new (second_text attrs.now) }
+{
+    put_number(out, Kind::Optional, MULTI_EXIT_DISC, attrs.med);
+    put_number(out, Kind::WellKnown, LOCAL_PREF, attrs.local_pref);
+    put_atomic(out, attrs.atomic);
+    put_aggregator(out, attrs.aggregator);
+}
+
+// COMMUNITIES, ORIGINATOR_ID and CLUSTER_LIST.
+fn put_third(out: &mut Message, attrs: &WireAttrs)
+    requires room { out.old.room ≤ 65535 }
+    requires fits { HasRoom out.old (length (third_text attrs.now)) }
+    ensures { Appended out.old out.new (third_text attrs.now) }
+{
+    put_u32s(out, Kind::OptionalTransitive, COMMUNITIES, attrs.communities.as_slice());
+    put_number(out, Kind::Optional, ORIGINATOR_ID, attrs.originator);
+    put_u32s(out, Kind::Optional, CLUSTER_LIST, attrs.clusters.as_slice());
+}
+
+// MP_REACH_NLRI, EXTENDED COMMUNITIES and LARGE_COMMUNITY.
+fn put_last(out: &mut Message, attrs: &WireAttrs)
+    requires room { out.old.room ≤ 65535 }
+    requires fits { HasRoom out.old (length (last_text (family_of attrs.now.hop) attrs.now)) }
+    ensures { Appended out.old out.new (last_text (family_of attrs.now.hop) attrs.now) }
+{
+    put_reach_head(out, attrs.hop);
+    put_exts(out, attrs.extended.as_slice());
+    put_larges(out, attrs.large.as_slice());
+}
+
+fn put_atomic(out: &mut Message, atomic: bool)
+    requires { HasRoom out.old (length (raws_text (raw_when atomic 64 6))) }
+    ensures { Appended out.old out.new (raws_text (raw_when atomic 64 6)) }
+{
+    if atomic {
+        put_plain(out, Kind::WellKnown, ATOMIC_AGGREGATE, &[]);
+    }
+}
+
+fn put_aggregator(out: &mut Message, aggregator: Option<Aggregator>)
+    requires { HasRoom out.old (length (raws_text (raw_if aggregator_text 192 7 aggregator))) }
+    ensures { Appended out.old out.new (raws_text (raw_if aggregator_text 192 7 aggregator)) }
+{
+    if let Some(aggregator) = aggregator {
+        put_head(out, Kind::OptionalTransitive, AGGREGATOR, 8);
+        out.append(&aggregator.asn.to_be_bytes());
+        out.append(&aggregator.addr.to_be_bytes());
+    }
+}
+
+fn origin_byte(origin: Origin) -> u8
+    ensures { result ≡ origin_number origin }
+{
+    match origin {
+        Origin::Igp => IGP,
+        Origin::Egp => EGP,
+        Origin::Incomplete => INCOMPLETE,
+    }
+}

@@ -1,0 +1,123 @@
+//! How many bytes path attributes take, before any is written.
+ghost use Rattle.std.specs.Prelude.{◌≡◌, ◌+◌, ◌*◌, ◌-◌, ◌^◌, ◌<◌, ◌≤◌, [], min, is_some, length};
+ghost use Rattle.update_grammar.specs.Values.{exts_text};
+ghost use Rattle.update_grammar.specs.Written.{attributes_text};
+ghost use Rattle.attr_codec.specs.Sizes.{IsShort, attr_size, size_if, list_size, segment_size, path_size, fixed_size, attributes_size, hop_size};
+
+use super::lists::{EXT_LEN, LARGE_LEN, NUMBER_LEN};
+use crate::codes::SHORT_MAX;
+use route_values::{Addr, AsPath, Family, Segment, WireAttrs};
+
+/// Flags, code and a length of one byte.
+const SHORT_HEAD: usize = 3;
+
+/// Flags, code and a length of two bytes.
+const LONG_HEAD: usize = 4;
+
+/// ORIGIN, whose value is one byte.
+const ORIGIN_LEN: usize = SHORT_HEAD + 1;
+
+/// What an MP_REACH_NLRI has beside its next hop and its prefixes: family, a length and a reserved byte.
+const REACH_FIXED: usize = 5;
+
+/// The length of the attributes of an announcement, without prefixes of IPv6, in bytes: 2^64 - 1 stands for any
+/// greater length. `attributes_size` says it by parts.
+pub fn attrs_len(attrs: &WireAttrs, family: Family) -> usize
+    ensures size { result ≡ min (attributes_size family attrs.now) (2 ^ 64 - 1) }
+    ensures value { result ≡ min (length (attributes_text family attrs.now [])) (2 ^ 64 - 1) }
+{
+    fixed_len(attrs, family)
+        .saturating_add(path_attr_len(&attrs.path))
+        .saturating_add(list_len(attrs.communities.len(), NUMBER_LEN))
+        .saturating_add(list_len(attrs.clusters.len(), NUMBER_LEN))
+        .saturating_add(exts_len(attrs.extended.as_slice()))
+        .saturating_add(list_len(attrs.large.len(), LARGE_LEN))
+}
+
+/// The length of the segments of a path, as far as 64 bits can tell.
+pub fn path_len(path: &AsPath) -> usize
+    ensures { result ≡ min (path_size path.now) (2 ^ 64 - 1) }
+{
+    let mut total = 0usize;
+    for segment in path.segments() {
+        total = total.saturating_add(segment_len(segment));
+    }
+    total
+}
+
+fn segment_len(segment: &Segment) -> usize
+    ensures { result ≡ min (segment_size segment.now) (2 ^ 64 - 1) }
+{
+    segment
+        .numbers
+        .len()
+        .saturating_mul(NUMBER_LEN)
+        .saturating_add(2)
+}
+
+// The attributes whose values have a fixed length.
+fn fixed_len(attrs: &WireAttrs, family: Family) -> usize
+    ensures { result ≡ fixed_size family attrs.now }
+{
+    ORIGIN_LEN
+        + hop_len(family, attrs.hop)
+        + len_if(attrs.med.is_some(), NUMBER_LEN)
+        + len_if(attrs.local_pref.is_some(), NUMBER_LEN)
+        + len_if(attrs.atomic, 0)
+        + len_if(attrs.aggregator.is_some(), 2 * NUMBER_LEN)
+        + len_if(attrs.originator.is_some(), NUMBER_LEN)
+}
+
+// NEXT_HOP, or MP_REACH_NLRI with an empty list of prefixes.
+fn hop_len(family: Family, hop: Addr) -> usize
+    ensures { result ≡ hop_size family hop }
+{
+    let addr = match hop {
+        Addr::V4(_) => 4,
+        Addr::V6(_) => 16,
+    };
+    match family {
+        Family::Ipv4 => SHORT_HEAD + addr,
+        Family::Ipv6 => SHORT_HEAD + REACH_FIXED + addr,
+    }
+}
+
+// An attribute whose value has so many bytes, where it stands.
+fn len_if(stands: bool, len: usize) -> usize
+    requires { len ≤ 255 }
+    ensures { result ≡ size_if stands len }
+{
+    if stands { SHORT_HEAD + len } else { 0 }
+}
+
+// AS_PATH.
+fn path_attr_len(path: &AsPath) -> usize
+    ensures { result ≡ min (attr_size (path_size path.now)) (2 ^ 64 - 1) }
+{
+    attr_len(path_len(path))
+}
+
+// EXTENDED COMMUNITIES. Each of them has eight bytes.
+fn exts_len(exts: &[[u8; 8]]) -> usize
+    ensures value { result ≡ min (list_size (length exts.now) 8) (2 ^ 64 - 1) }
+    ensures eight { length (exts_text exts.now) ≡ length exts.now * 8 }
+{
+    list_len(exts.len(), EXT_LEN)
+}
+
+// An attribute with a list of so many values of so many bytes each.
+fn list_len(count: usize, width: usize) -> usize
+    ensures { result ≡ min (list_size count width) (2 ^ 64 - 1) }
+{
+    if count == 0 {
+        return 0;
+    }
+    attr_len(count.saturating_mul(width))
+}
+
+// An attribute whose value has so many bytes.
+fn attr_len(len: usize) -> usize
+    ensures { result ≡ min (attr_size len) (2 ^ 64 - 1) }
+{
+    len.saturating_add(if len > SHORT_MAX { LONG_HEAD } else { SHORT_HEAD })
+}

@@ -1,0 +1,47 @@
+//! What every UPDATE has: a header, and the lengths of the two fields before its prefixes.
+//!
+//! ```text
+//! +--------+--------+------+-----------+-----------+------------+------------+----------+
+//! | marker | length | type | withdrawn | withdrawn | attributes | attributes | prefixes |
+//! | 16     | 2      | 1    | length: 2 |           | length: 2  |            |          |
+//! +--------+--------+------+-----------+-----------+------------+------------+----------+
+//! ```
+ghost use Rattle.std.specs.Prelude.{◌≡◌, ◌+◌, ◌≤◌, ◌∷◌, [], ◌++◌, length};
+ghost use Rattle.std.specs.Int.{w16, to_be_bytes};
+ghost use Rattle.update_grammar.specs.Written.{header};
+ghost use Rattle.attr_codec.specs.Buffer.{HasRoom, Appended};
+
+use attr_codec::Message;
+
+/// The marker at the front of each message (RFC 4271, section 4.1).
+const MARKER: [u8; 16] = [255; 16];
+
+/// The type of UPDATE messages (RFC 4271, section 4.1).
+const UPDATE: u8 = 2;
+
+/// The length of the withdrawn prefixes where there is none.
+const NO_WITHDRAWN: [u8; 2] = [0, 0];
+
+/// How many bytes an UPDATE has without withdrawn prefixes, attributes and prefixes: a header of 19 bytes and two
+/// lengths (RFC 4271, section 4.3).
+pub const FRAME_LEN: usize = 23;
+
+/// Puts all that stands before attributes of so many bytes, where no prefix stands behind them.
+pub fn put_frame(out: &mut Message, len: usize)
+    requires small { 23 + len ≤ 65535 }
+    requires fits { HasRoom out.old 23 }
+    ensures { Appended out.old out.new (header (23 + len) 2 ++ (0 ∷ 0 ∷ to_be_bytes w16 len)) }
+{
+    put_header(out, (FRAME_LEN + len) as u16);
+    out.append(&NO_WITHDRAWN);
+    out.append(&(len as u16).to_be_bytes());
+}
+
+fn put_header(out: &mut Message, len: u16)
+    requires { HasRoom out.old 19 }
+    ensures { Appended out.old out.new (header len 2) }
+{
+    out.append(&MARKER);
+    out.append(&len.to_be_bytes());
+    out.append(&[UPDATE]);
+}
