@@ -4,3 +4,6 @@ pub mod HistoryLemmas
 pub mod NameLemmas
 pub mod QueueLemmas
 pub mod ViewLemmas
+pub mod StepLemmas
+pub mod PassLemmas
+pub mod CallLemmas

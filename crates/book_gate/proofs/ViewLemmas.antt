@@ -1,7 +1,7 @@
 -- What holds of single views, and of the state's home, through each step.
-use Rattle.std.proofs.Common.{◌≡◌, ◌≢◌, ◌⊎◌, ℕ, ◌+◌, ◌<◌, ◌≤◌, Bool, true, false, true≢false, cond, List, [], ◌∷◌, ◌++◌, map, length, set, refl, sym, ap, subst, ◌∙◌, inl, inr, ⊎_elim, arith, Option, Some, None, is_some}
+use Rattle.std.proofs.Common.{◌≡◌, ◌≢◌, ◌⊎◌, ℕ, ◌+◌, ◌≤◌, Bool, true, false, true≢false, cond, List, [], ◌∷◌, ◌++◌, map, length, set, refl, sym, ap, subst, ◌∙◌, inl, inr, ⊎_elim, arith, Option, Some}
 use Rattle.std.specs.Prelude.{nat_lt, Contains}
-use Rattle.std.proofs.lemmas.List.{map-set, map-append}
+use Rattle.std.proofs.lemmas.List.{map-set}
 use Rattle.std.proofs.lemmas.Bool.Decides.{nat_tests}
 use mathlib.Core.Logic.{dite}
 use mathlib.Core.Option.{some}
@@ -14,7 +14,7 @@ use Rattle.book_gate.specs.declared.view.Signed.{Signed}
 use Rattle.book_gate.specs.declared.view.Part.{Part}
 use Rattle.book_gate.specs.declared.view.View.{View}
 use Rattle.book_gate.specs.Histories.{entries, entries_by, signed}
-use Rattle.book_gate.specs.Names.{Lineage, NamesAgree}
+use Rattle.book_gate.specs.Names.{NamesAgree}
 use Rattle.book_gate.specs.Views.{lineage, own_names, part_of, longer, IsWhole, spent_view}
 use Rattle.book_gate.specs.Rule.{ViewFits, IsSeen, IsHome}
 use Rattle.book_gate.proofs.ListLemmas.{prefix_self, prefix_more, prefix_shorter, each_set, each_end, same_at, at_below}
@@ -114,10 +114,10 @@ module _ {E : Type 0} where
   pub whole_between : (part : Part E) (seen log : List (Signed E)) → IsPrefix part.seen seen → IsPrefix seen log → ((name : List ℕ) → Contains part.names name → entries_by name part.seen ≡ entries_by name log) → IsWhole seen part
   whole_between part seen log first second own = record { front = first; same = λ name has. sym (entries_by_between name part.seen seen log first second (own name has)) }
 
-module _ {T A E : Type 0} (stands : T → A → List E → Type 0) (law : A → List E → E → Type 0) (start : A) where
+module _ {T A E : Type 0} (stands : T → A → List E → Type 0) (start : A) where
   -- A step of a view that is not at its turn leaves the home as it is
   pub home_same : (log : List (Signed E)) (homes : List (maybe.Option (Option T))) (views : List (View A E)) (me : ℕ) (view new : View A E) → get_elem? views me ≡ some view → view.turn ≡ false → new.turn ≡ false
-      → IsHome stands law start log homes views → IsHome stands law start log homes (set views me new)
+      → IsHome stands start log homes views → IsHome stands start log homes (set views me new)
   home_same log homes views me view new at rests still home =
       ⊎_elim
       (λ (in_slot : (state : T) × (get_elem? homes 0 ≡ some (some (Some state))) × stands state start (entries log) × ((i : ℕ) (other : View A E) → get_elem? views i ≡ some other → other.turn ≡ false)).
@@ -128,7 +128,7 @@ module _ {T A E : Type 0} (stands : T → A → List E → Type 0) (law : A → 
       home
 
   -- A new view that is not at its turn
-  pub home_end : (log : List (Signed E)) (homes : List (maybe.Option (Option T))) (views : List (View A E)) (new : View A E) → new.turn ≡ false → IsHome stands law start log homes views → IsHome stands law start log homes (views ++ new ∷ [])
+  pub home_end : (log : List (Signed E)) (homes : List (maybe.Option (Option T))) (views : List (View A E)) (new : View A E) → new.turn ≡ false → IsHome stands start log homes views → IsHome stands start log homes (views ++ new ∷ [])
   home_end log homes views new rests home =
       ⊎_elim
       (λ (in_slot : (state : T) × (get_elem? homes 0 ≡ some (some (Some state))) × stands state start (entries log) × ((i : ℕ) (other : View A E) → get_elem? views i ≡ some other → other.turn ≡ false)).

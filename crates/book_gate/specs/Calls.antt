@@ -1,5 +1,5 @@
 -- What the calls of the gate tell.
-use Rattle.std.specs.Prelude.{◌≡◌, ℕ, ◌+◌, List, [], ◌∷◌, ◌++◌, Option, Some, Contains}
+use Rattle.std.specs.Prelude.{◌≡◌, ℕ, ◌+◌, List, [], ◌∷◌, ◌++◌, Some, Contains}
 use mathlib.Core.List.{IsPrefix}
 use Rattle.book_gate.specs.declared.view.Signed.{Signed}
 use Rattle.book_gate.specs.Histories.{Legal, entries, entries_by, signed}

@@ -1,5 +1,5 @@
 -- What contracts see of a pass, and of a glimpse.
-use Rattle.std.specs.Prelude.{◌≡◌, ℕ, false, true, List, [], ◌∷◌, length, Option, is_some}
+use Rattle.std.specs.Prelude.{◌≡◌, ℕ, false, true, List, [], length, Option, is_some}
 use Rattle.atomic_table.specs.Seated.{TableId}
 use Rattle.atomic_table.specs.declared.shared.Seat.{Seat}
 use Rattle.book_gate.specs.declared.view.Signed.{Signed}

@@ -41,13 +41,14 @@ module _ {A E : Type 0} (law : A → List E → E → Type 0) where
     pub named : (x : Signed E) → Contains log x → IsGivenOut given x.name
     pub seen : IsSeen start log views
 
-module _ {T A E : Type 0} (stands : T → A → List E → Type 0) (law : A → List E → E → Type 0) where
+module _ {T A E : Type 0} (stands : T → A → List E → Type 0) where
   -- The state is at home and no view is at its turn, or a view is
   abbrev pub IsHome : A → List (Signed E) → List (maybe.Option (Option T)) → List (View A E) → Type 0
   IsHome start log homes views =
       ((state : T) × (get_elem? homes 0 ≡ some (some (Some state))) × stands state start (entries log) × ((i : ℕ) (view : View A E) → get_elem? views i ≡ some view → view.turn ≡ false))
       ⊎ ((i : ℕ) × (view : View A E) × (get_elem? views i ≡ some view) × (view.turn ≡ true))
 
+module _ {T A E : Type 0} (stands : T → A → List E → Type 0) (law : A → List E → E → Type 0) where
   -- The words count tickets, turns and entries modulo 2^64, and all views agree on one history
   pub record GateRule (start : A) (state : State (Option T) (View A E)) : Type 0 where
     pub ledger : Ledger E
@@ -56,4 +57,4 @@ module _ {T A E : Type 0} (stands : T → A → List E → Type 0) (law : A → 
     pub history : IsHistory law start ledger.given ledger.log state.views
     pub each : (i : ℕ) (view : View A E) → get_elem? state.views i ≡ some view → ViewFits start ledger.log ledger.done ledger.all view
     pub names : NamesAgree ledger.given (map lineage state.views)
-    pub home : IsHome start ledger.log state.homes state.views
+    pub home : IsHome stands start ledger.log state.homes state.views

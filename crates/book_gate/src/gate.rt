@@ -99,9 +99,7 @@ impl<T: Held> Gate<T> {
         ensures new { IfOk result (λ p. IsSplit T.law pass.old pass.new p) }
         ensures same { OnErr result (pass.new ≡ pass.old) }
     {
-        self.table
-            .shared
-            .load::<Review<T>>(&mut pass.seat, SERVING);
+        self.table.shared.load::<Review<T>>(&mut pass.seat, SERVING);
         if pass.room == 0 {
             return Err(NoMemory);
         }
@@ -119,12 +117,8 @@ impl<T: Held> Gate<T> {
         ensures joined { IsJoin T.law pass.old other pass.new }
     {
         let Pass { seat, room } = other;
-        self.table
-            .shared
-            .join_seat::<Family>(&mut pass.seat, seat);
-        self.table
-            .shared
-            .load::<Review<T>>(&mut pass.seat, SERVING);
+        self.table.shared.join_seat::<Family>(&mut pass.seat, seat);
+        self.table.shared.load::<Review<T>>(&mut pass.seat, SERVING);
         pass.room += room + 1;
     }
 
@@ -147,9 +141,7 @@ impl<T: Held> Gate<T> {
     {
         let Glimpse { seat } = glimpse;
         self.table.shared.join_seat::<Lore>(&mut pass.seat, seat);
-        self.table
-            .shared
-            .load::<Review<T>>(&mut pass.seat, SERVING);
+        self.table.shared.load::<Review<T>>(&mut pass.seat, SERVING);
     }
 
     /// The state, which stands for what the pass has seen. The pass is the first one, and all others have been joined into it.
