@@ -1,0 +1,9 @@
+pub mod ListLemmas
+pub mod OptionLemmas
+pub mod HistoryLemmas
+pub mod NameLemmas
+pub mod QueueLemmas
+pub mod ViewLemmas
+pub mod StepLemmas
+pub mod PassLemmas
+pub mod CallLemmas

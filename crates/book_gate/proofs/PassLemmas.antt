@@ -1,0 +1,263 @@
+-- Opening and closing a gate, splitting and joining passes, and glimpses keep the rule of the gate.
+use Rattle.std.proofs.Common.{◌≡◌, ◌≢◌, ◌⊎◌, ℕ, zero, suc, ◌<◌, true, false, true≢false, List, [], ◌∷◌, ◌++◌, map, length, set, refl, sym, ap, subst, ◌∙◌, inl, inr, ⊎_elim, arith, length-append, Option, Some, None, is_some}
+use Rattle.std.specs.Prelude.{Contains}
+use Rattle.std.proofs.lemmas.List.{map-set, map-append}
+use mathlib.Core.Logic.{dite}
+use mathlib.Core.Option.{some, some-injective, some-ne-none}
+use mathlib.Core.List.{IsPrefix}
+use native.Mathlib.Decide.{ℕ_discrete}
+use lib.ListN.{get_elem?}
+use Rattle.atomic_table.specs.Table.{State, opening, Splits, Joins}
+use Rattle.atomic_table.proofs.Lists.{set_here, set_else, at_map}
+use Rattle.book_gate.specs.declared.view.Signed.{Signed}
+use Rattle.book_gate.specs.declared.view.Lesson.{Lesson}
+use Rattle.book_gate.specs.declared.view.View.{View}
+use Rattle.book_gate.specs.Histories.{entries, entries_by}
+use Rattle.book_gate.specs.Names.{Lineage, IsTrueLine, NamesAgree, child_name}
+use Rattle.book_gate.specs.Views.{lineage, own_names, part_of, first_view, glimpse_view, spent_view, parent_view, child_view, joined_view, taught_view, longer, IsWhole}
+use Rattle.book_gate.specs.Rule.{ViewFits, IsSeen, GateRule}
+use Rattle.book_gate.proofs.ListLemmas.{prefix_length, prefix_whole, each_set, each_end, same_at, at_below, contains_none, contains_one, contains_here, contains_there, contains_cases}
+use Rattle.book_gate.proofs.OptionLemmas.{no_value, none_of, not_true, some_same}
+use Rattle.book_gate.proofs.HistoryLemmas.{entries_by_between, entries_by_unknown_prefix}
+use Rattle.book_gate.proofs.NameLemmas.{gives_one, still_given, joined_cases, names_drop, names_more, names_split, names_join, alone}
+use Rattle.book_gate.proofs.QueueLemmas.{places_of_pass, queue_splits, queue_joins}
+use Rattle.book_gate.proofs.ViewLemmas.{fits_no_pass, names_same, still_seen, seen_end, IsLonger, longer_of, whole_between, home_same, home_end}
+use Rattle.book_gate.proofs.StepLemmas.{next_unknown, line_of}
+
+module _ {A E : Type 0} where
+  -- An own name of two joined views is one of the first or of the second
+  join_names : (view other : View A E) (name : List ℕ) → Contains (own_names (joined_view view other)) name → Contains (own_names view) name ⊎ Contains (own_names other) name
+  join_names view other name has =
+      ⊎_elim (λ (is : view.name ≡ name). inl (subst (Contains (own_names view)) is (contains_here view.name view.joined)))
+      (λ rest. ⊎_elim
+      (λ old. ⊎_elim (λ (mine : Contains view.joined name). inl (contains_there view.name view.joined name mine)) (λ (theirs : Contains other.joined name). inr (contains_there other.name other.joined name theirs)) old)
+      (λ (is : other.name ≡ name). inr (subst (Contains (own_names other)) is (contains_here other.name other.joined)))
+      (joined_cases (lineage view) (lineage other) name rest))
+      (contains_cases view.name ((view.joined ++ other.joined) ++ other.name ∷ []) name has)
+
+module _ {E : Type 0} where
+  -- A name with no more entries in the whole history has none more in a list between
+  same_between : (name : List ℕ) (front middle log : List (Signed E)) → IsPrefix front middle → IsPrefix middle log → entries_by name front ≡ entries_by name log → entries_by name middle ≡ entries_by name log
+  same_between name front middle log first second same = sym (entries_by_between name front middle log first second same) ∙ same
+
+  -- The longer of two beginnings of the history is the whole where one of them is
+  longer_whole : (log xs ys : List (Signed E)) → IsLonger log xs ys → (xs ≡ log) ⊎ (ys ≡ log) → longer xs ys ≡ log
+  longer_whole log xs ys long whole =
+      prefix_whole _ _ long.front (⊎_elim (λ (is : xs ≡ log). omega (arith, ap length is, prefix_length _ _ long.own)) (λ (is : ys ≡ log). omega (arith, ap length is, prefix_length _ _ long.theirs)) whole)
+
+module _ {A E : Type 0} (start : A) (log : List (Signed E)) (done all : ℕ) where
+  child_fits : (view : View A E) → ViewFits start log done all view → entries_by (child_name view.name view.next) log ≡ [] → ViewFits start log done all (child_view view)
+  child_fits view fits unknown = record {
+    opened = fits.opened;
+    seen = fits.seen;
+    own = λ a live name has. subst (λ z. entries_by z view.seen ≡ entries_by z log) (contains_one (child_name view.name view.next) name has) (entries_by_unknown_prefix (child_name view.name view.next) view.seen log fits.seen unknown ∙ sym unknown);
+    out = λ k is. absurd (no_value k is);
+    alive = λ k is. absurd (no_value k is);
+    turn = λ on. absurd (true≢false (sym on));
+    lesson = λ lesson is. absurd (no_value lesson is);
+  }
+
+  joined_fits : (view other : View A E) (a b : A) → view.start ≡ Some a → other.start ≡ Some b → view.turn ≡ false → ViewFits start log done all view → ViewFits start log done all other → ViewFits start log done all (joined_view view other)
+  joined_fits view other a b live alive rests mine theirs =
+      let long = longer_of log view.seen other.seen mine.seen theirs.seen in record {
+        opened = mine.opened;
+        seen = long.front;
+        own = λ _ _ name has. ⊎_elim
+            (λ (own : Contains (own_names view) name). same_between name view.seen (longer view.seen other.seen) log long.own long.front (mine.own a live name own))
+            (λ (own : Contains (own_names other) name). same_between name other.seen (longer view.seen other.seen) log long.theirs long.front (theirs.own b alive name own))
+            (join_names view other name has);
+        out = mine.out;
+        alive = mine.alive;
+        turn = λ on. absurd (not_true view.turn rests on);
+        lesson = λ lesson is. subst (λ (z : Lesson E). IsWhole (longer view.seen other.seen) z.own × IsWhole (longer view.seen other.seen) z.other) (some_same _ lesson is)
+            (whole_between (part_of view) (longer view.seen other.seen) log long.own long.front (mine.own a live), whole_between (part_of other) (longer view.seen other.seen) log long.theirs long.front (theirs.own b alive));
+      }
+
+  taught_fits : (view glimpse : View A E) (a : A) → view.start ≡ Some a → view.turn ≡ false → ViewFits start log done all view → IsPrefix glimpse.seen log → ViewFits start log done all (taught_view view glimpse)
+  taught_fits view glimpse a live rests mine front =
+      let long = longer_of log view.seen glimpse.seen mine.seen front in record {
+        opened = mine.opened;
+        seen = long.front;
+        own = λ b is name has. same_between name view.seen (longer view.seen glimpse.seen) log long.own long.front (mine.own b is name has);
+        out = mine.out;
+        alive = mine.alive;
+        turn = λ on. absurd (not_true view.turn rests on);
+        lesson = λ lesson is. subst (λ (z : Lesson E). IsWhole (longer view.seen glimpse.seen) z.own × IsWhole (longer view.seen glimpse.seen) z.other) (some_same _ lesson is)
+            (whole_between (part_of view) (longer view.seen glimpse.seen) log long.own long.front (mine.own a live), record { front = long.theirs; same = λ name has. absurd (contains_none name has) });
+      }
+
+module _ {T A E : Type 0} (stands : T → A → List E → Type 0) (law : A → List E → E → Type 0) (start : A) where
+  abbrev Table : Type 0
+  Table = State (Option T) (View A E)
+
+  abbrev Rule : Table → Type 0
+  Rule = GateRule stands law start
+
+  pub splits : (me : ℕ) (view : View A E) (a : A) → view.start ≡ Some a → view.turn ≡ false → 0 < view.room → Splits Rule me view (parent_view view) (child_view view)
+  splits me view a live rests room state rule at =
+      let ledger = rule.ledger in
+      let views = state.views in
+      let mine = rule.each me view at in
+      let line = line_of stands law start state rule me view a at live in
+      let left = parent_view view in
+      let right = child_view view in
+      let old = set views me left in
+      let unknown = next_unknown ledger.given view ledger.log line rule.history.named in record {
+        ledger = record { log = ledger.log; given = gives_one ledger.given view.name; done = ledger.done; all = ledger.all };
+        words = rule.words;
+        queue = queue_splits ledger.done ledger.all views rule.queue me view at left right refl refl (let whole = places_of_pass view a live in let first = places_of_pass left a live in let second = places_of_pass right a live in omega (arith, whole, first, second));
+        history = record {
+          legal = rule.history.legal;
+          named = λ x has. still_given ledger.given view.name x.name (rule.history.named x has);
+          seen = seen_end start ledger.log old right (still_seen start ledger.log views me view left at refl refl rule.history.seen);
+        };
+        each = each_end (λ _ (other : View A E). ViewFits start ledger.log ledger.done ledger.all other) old right (child_fits start ledger.log ledger.done ledger.all view mine unknown)
+            (each_set (λ _ (other : View A E). ViewFits start ledger.log ledger.done ledger.all other) views me left
+            (record { opened = mine.opened; seen = mine.seen; own = mine.own; out = mine.out; alive = mine.alive; turn = mine.turn; lesson = mine.lesson })
+            (λ j other _ there. rule.each j other there));
+        names = subst (NamesAgree (gives_one ledger.given view.name)) (sym (map-append lineage old (right ∷ []) ∙ ap (λ lines. lines ++ lineage right ∷ []) (map-set lineage views me left)))
+            (names_split ledger.given (map lineage views) me (lineage view) rule.names (at_map lineage views me view at) (ap is_some live));
+        home = home_end stands start ledger.log state.homes old right refl (home_same stands start ledger.log state.homes views me view left at rests rests rule.home);
+      }
+
+  pub glimpses : (me : ℕ) (view : View A E) → view.turn ≡ false → Splits Rule me view view (glimpse_view view.seen)
+  glimpses me view rests state rule at =
+      let ledger = rule.ledger in
+      let views = state.views in
+      let mine = rule.each me view at in
+      let new = glimpse_view view.seen in
+      let old = set views me view in record {
+        ledger = ledger;
+        words = rule.words;
+        queue = queue_splits ledger.done ledger.all views rule.queue me view at view new refl refl (omega arith);
+        history = record { legal = rule.history.legal; named = rule.history.named; seen = seen_end start ledger.log old new (still_seen start ledger.log views me view view at refl refl rule.history.seen) };
+        each = each_end (λ _ (other : View A E). ViewFits start ledger.log ledger.done ledger.all other) old new (fits_no_pass start ledger.log ledger.done ledger.all view.seen mine.seen)
+            (each_set (λ _ (other : View A E). ViewFits start ledger.log ledger.done ledger.all other) views me view mine (λ j other _ there. rule.each j other there));
+        names = subst (NamesAgree ledger.given) (sym (map-append lineage old (new ∷ []))) (names_more ledger.given (map lineage old) (names_same ledger.given views me view view at refl rule.names) (lineage new) refl);
+        home = home_end stands start ledger.log state.homes old new refl (home_same stands start ledger.log state.homes views me view view at rests rests rule.home);
+      }
+
+  pub joins : (me at_other : ℕ) (view other : View A E) (a b : A) → view.start ≡ Some a → view.turn ≡ false → other.start ≡ Some b → other.ticket ≡ None → other.turn ≡ false → Joins Rule me view at_other other (joined_view view other) spent_view
+  joins me at_other view other a b live rests alive idle rests' state rule at two there_now =
+      let ledger = rule.ledger in
+      let views = state.views in
+      let both = joined_view view other in
+      let mid = set views me both in
+      let there : get_elem? views at_other ≡ some other = sym (set_else views me at_other both two) ∙ there_now in
+      let mine = rule.each me view at in
+      let theirs = rule.each at_other other there in
+      let long = longer_of ledger.log view.seen other.seen mine.seen theirs.seen in
+      let found : get_elem? (set mid at_other spent_view) me ≡ some both = set_else mid at_other me spent_view (λ same. two (sym same)) ∙ set_here views me both (at_below views me view at) in
+      let here : a ≡ start = mine.opened a live in
+      let whole_now : (view.seen ≡ ledger.log) ⊎ (other.seen ≡ ledger.log) → IsSeen start ledger.log (set mid at_other spent_view) = λ whole. (me, both, found, live ∙ ap Some here, longer_whole ledger.log view.seen other.seen long whole) in
+      let whole = rule.history.seen in record {
+        ledger = ledger;
+        words = rule.words;
+        queue = queue_joins ledger.done ledger.all views rule.queue me view at at_other other both spent_view there_now refl idle refl
+            (let first = places_of_pass view a live in let second = places_of_pass other b alive in let sum = places_of_pass both a live in omega (arith, first, second, sum));
+        history = record {
+          legal = rule.history.legal;
+          named = rule.history.named;
+          seen = dite (ℕ_discrete whole.0 me) (λ is. whole_now (inl (ap (λ (z : View A E). z.seen) (same_at views whole.0 me view whole.1 whole.2 at is) ∙ whole.4)))
+              (λ else. dite (ℕ_discrete whole.0 at_other) (λ is. whole_now (inr (ap (λ (z : View A E). z.seen) (same_at views whole.0 at_other other whole.1 whole.2 there is) ∙ whole.4)))
+              (λ else'. (whole.0, whole.1, set_else mid at_other whole.0 spent_view else' ∙ (set_else views me whole.0 both else ∙ whole.2), whole.3, whole.4)));
+        };
+        each = each_set (λ _ (third : View A E). ViewFits start ledger.log ledger.done ledger.all third) mid at_other spent_view (fits_no_pass start ledger.log ledger.done ledger.all [] (ledger.log, refl))
+            (λ j third _ at'. each_set (λ _ (third : View A E). ViewFits start ledger.log ledger.done ledger.all third) views me both (joined_fits start ledger.log ledger.done ledger.all view other a b live alive rests mine theirs)
+            (λ i fourth _ at''. rule.each i fourth at'') j third at');
+        names = subst (NamesAgree ledger.given) (sym (map-set lineage mid at_other spent_view ∙ ap (λ lines. set lines at_other (lineage (spent_view {A = A} {E = E}))) (map-set lineage views me both)))
+            (names_join ledger.given (map lineage views) me at_other (lineage view) (lineage other) rule.names (at_map lineage views me view at) (at_map lineage views at_other other there) (ap is_some live) (ap is_some alive));
+        home = home_same stands start ledger.log state.homes mid at_other other spent_view there_now rests' refl (home_same stands start ledger.log state.homes views me view both at rests rests rule.home);
+      }
+
+  pub learns : (me at_other : ℕ) (view glimpse : View A E) (a : A) → view.start ≡ Some a → view.turn ≡ false → is_some glimpse.start ≡ false → glimpse.ticket ≡ None → glimpse.turn ≡ false → Joins Rule me view at_other glimpse (taught_view view glimpse) spent_view
+  learns me at_other view glimpse a live rests no_pass idle rests' state rule at two there_now =
+      let ledger = rule.ledger in
+      let views = state.views in
+      let taught = taught_view view glimpse in
+      let mid = set views me taught in
+      let there : get_elem? views at_other ≡ some glimpse = sym (set_else views me at_other taught two) ∙ there_now in
+      let mine = rule.each me view at in
+      let long = longer_of ledger.log view.seen glimpse.seen mine.seen (rule.each at_other glimpse there).seen in
+      let found : get_elem? (set mid at_other spent_view) me ≡ some taught = set_else mid at_other me spent_view (λ same. two (sym same)) ∙ set_here views me taught (at_below views me view at) in
+      let here : a ≡ start = mine.opened a live in
+      let whole = rule.history.seen in record {
+        ledger = ledger;
+        words = rule.words;
+        queue = queue_joins ledger.done ledger.all views rule.queue me view at at_other glimpse taught spent_view there_now refl idle refl (omega arith);
+        history = record {
+          legal = rule.history.legal;
+          named = rule.history.named;
+          seen = dite (ℕ_discrete whole.0 me)
+              (λ is. (me, taught, found, live ∙ ap Some here, longer_whole ledger.log view.seen glimpse.seen long (inl (ap (λ (z : View A E). z.seen) (same_at views whole.0 me view whole.1 whole.2 at is) ∙ whole.4))))
+              (λ else.
+              let else' : whole.0 ≢ at_other = λ is. none_of glimpse.start no_pass start (ap (λ (z : View A E). z.start) (same_at views whole.0 at_other glimpse whole.1 whole.2 there is) ∙ whole.3) in
+              (whole.0, whole.1, set_else mid at_other whole.0 spent_view else' ∙ (set_else views me whole.0 taught else ∙ whole.2), whole.3, whole.4));
+        };
+        each = each_set (λ _ (third : View A E). ViewFits start ledger.log ledger.done ledger.all third) mid at_other spent_view (fits_no_pass start ledger.log ledger.done ledger.all [] (ledger.log, refl))
+            (λ j third _ at'. each_set (λ _ (third : View A E). ViewFits start ledger.log ledger.done ledger.all third) views me taught (taught_fits start ledger.log ledger.done ledger.all view glimpse a live rests mine (rule.each at_other glimpse there).seen)
+            (λ i fourth _ at''. rule.each i fourth at'') j third at');
+        names = subst (NamesAgree ledger.given) (sym (map-set lineage mid at_other spent_view)) (names_drop ledger.given (map lineage mid) (names_same ledger.given views me view taught at refl rule.names) at_other);
+        home = home_same stands start ledger.log state.homes mid at_other glimpse spent_view there_now rests' refl (home_same stands start ledger.log state.homes views me view taught at rests rests rule.home);
+      }
+
+  only_first : (i : ℕ) (first view : View A E) → get_elem? (first ∷ []) i ≡ some view → (i ≡ 0) × (first ≡ view)
+  only_first zero first view at = (refl, some-injective first view at)
+  only_first (suc i) first view at = absurd (some-ne-none view (sym at))
+
+  pub opens : (held : T) → stands held start [] → Rule (opening (0 ∷ 0 ∷ 0 ∷ []) (Some held ∷ []) (first_view start))
+  opens held is = record {
+    ledger = record { log = []; given = λ _. 0; done = 0; all = 0 };
+    words = refl;
+    queue = record { apart = λ i j view other k at there is is'. (only_first i first view at).0 ∙ sym (only_first j first other there).0; covers = λ k low high. absurd (omega arith); count = refl; few = omega arith };
+    history = record { legal = λ before entry front. absurd (no_longer before entry front); named = λ x has. absurd (contains_none x has); seen = (0, first, refl, refl, refl) };
+    each = λ i view at. subst (ViewFits start [] 0 0) (only_first i first view at).1
+        (record {
+          opened = λ a starts. some_same a start (sym starts);
+          seen = ([], refl);
+          own = λ _ _ _ _. refl;
+          out = λ k out. absurd (no_value k out);
+          alive = λ k out. absurd (no_value k out);
+          turn = λ on. absurd (true≢false (sym on));
+          lesson = λ lesson was. absurd (no_value lesson was);
+        });
+    names = record {
+      each = λ i line at live. subst (IsTrueLine (λ _. 0)) (first_line i line at).1
+          (record { out = λ parent k front. absurd (no_longer parent k front); next = refl; split = λ parent k from below. absurd (omega arith); joined = λ name has. absurd (contains_none name has); only = λ name has. absurd (contains_none name has) });
+      pairs = λ i j line other at there _ _. record { one = λ _. (first_line i line at).0 ∙ sym (first_line j other there).0; gone = λ has. contains_none _ (subst (λ (z : Lineage). Contains z.joined other.name) (sym (first_line i line at).1) has) };
+      unused = λ name not. refl;
+    };
+    home = inl (held, refl, is, λ i view at. ap (λ (z : View A E). z.turn) (sym (only_first i first view at).1));
+  }
+    where
+      first : View A E
+      first = first_view start
+
+      no_longer : {X : Type 0} (before : List X) (x : X) → IsPrefix (before ++ x ∷ []) [] → ⊥
+      no_longer before x front = omega (arith, ap length front.1, length-append (before ++ x ∷ []) front.0, length-append before (x ∷ []))
+
+      first_line : (i : ℕ) (line : Lineage) → get_elem? (lineage (first_view {A = A} {E = E} start) ∷ []) i ≡ some line → (i ≡ 0) × (lineage (first_view {A = A} {E = E} start) ≡ line)
+      first_line zero line at = (refl, some-injective _ line at)
+      first_line (suc i) line at = absurd (some-ne-none line (sym at))
+
+  -- Where the first pass has all others joined into it, the state is at home and stands for what the pass has seen
+  pub closes : (me : ℕ) (view : View A E) (state : Table) (a : A) → Rule state → get_elem? state.views me ≡ some view → view.start ≡ Some a → view.turn ≡ false → view.name ≡ [] → ((name : List ℕ) → Contains view.split name → Contains view.joined name)
+      → (held : T) × (get_elem? state.homes 0 ≡ some (some (Some held))) × stands held a (entries view.seen)
+  closes me view state a rule at live rests root all =
+      let ledger = rule.ledger in
+      let views = state.views in
+      let mine = rule.each me view at in
+      let here : a ≡ start = mine.opened a live in
+      let line = line_of stands law start state rule me view a at live in
+      let only_me : (j : ℕ) (other : View A E) → get_elem? views j ≡ some other → is_some other.start ≡ true → j ≡ me =
+      λ j other there alive. alone ledger.given (lineage view) line root all (map lineage views) me j (lineage other) rule.names (at_map lineage views me view at) (ap is_some live) (at_map lineage views j other there) alive in
+      let last = rule.history.seen in
+      let whole : view.seen ≡ ledger.log = ap (λ (z : View A E). z.seen) (same_at views last.0 me view last.1 last.2 at (only_me last.0 last.1 last.2 (ap is_some last.3))) ∙ last.4 in
+      ⊎_elim
+      (λ (in_slot : (held : T) × (get_elem? state.homes 0 ≡ some (some (Some held))) × stands held start (entries ledger.log) × ((i : ℕ) (other : View A E) → get_elem? views i ≡ some other → other.turn ≡ false)).
+      (in_slot.0, in_slot.1, subst (λ (z : A × List (Signed E)). stands in_slot.0 z.0 (entries z.1)) (λ i. (sym here i, sym whole i)) in_slot.2))
+      (λ (out : (i : ℕ) × (other : View A E) × (get_elem? views i ≡ some other) × (other.turn ≡ true)).
+      let fits = rule.each out.0 out.1 out.2 in
+      let alive = ap is_some (fits.alive ledger.done (fits.turn out.3).0) in
+      absurd (not_true view.turn rests (ap (λ (z : View A E). z.turn) (same_at views out.0 me view out.1 out.2 at (only_me out.0 out.1 out.2 alive)) ∙ out.3)))
+      rule.home

@@ -1,0 +1,9 @@
+pub mod Histories
+pub mod Names
+pub mod Views
+pub mod Queue
+pub mod Rule
+pub mod Steps
+pub mod Known
+pub mod Calls
+pub mod Turns

@@ -1,0 +1,23 @@
+//! A pass: the leave to make calls, which knows a beginning of the history.
+use crate::held::Held;
+use crate::view::Place;
+use std::marker::Model;
+
+/// A thread makes calls with its own. Contracts see its gate, that gate's start, its name, the entries that it has seen, the names
+/// that it gave out and the names of the passes that were joined into it. It takes no memory but for a number.
+#[derive(Drop)]
+pub struct Pass<T: Held> {
+    pub(crate) seat: Place<T>,
+    // How many passes may still be split off it and those split off it.
+    pub(crate) room: u64,
+}
+
+impl<T: Held> Model for Pass<T> {
+    ghost use Rattle.book_gate.specs.Known.{Known, known, IsAtRest};
+
+    ghost Value = { Known T.Start T.Entry };
+
+    ghost view = { λ p. known p.seat };
+
+    ghost invariant = { λ p. IsAtRest p.seat p.room };
+}
