@@ -1,0 +1,5 @@
+pub mod ListingLemmas
+pub mod LeadsLemmas
+pub mod CrossedLemmas
+pub mod ChainLemmas
+pub mod GrowthLemmas
