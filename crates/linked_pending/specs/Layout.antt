@@ -1,6 +1,6 @@
 -- Groups in one flat list of places: for each group its nodes, and then a place that marks its end.
 use Rattle.std.specs.Prelude.{◌≡◌, ℕ, ◌+◌, ◌-◌, ◌*◌, ◌/◌, ◌%◌, Bool, true, false, ◌||◌, List, [], ◌∷◌, ◌==◌, if◌then◌else◌, ⊤}
-use Rattle.linked_pending.specs.Listing.{has}
+use Rattle.linked_pending.specs.Listing.{has, put_before}
 use Rattle.linked_pending.specs.Links.{link}
 use Rattle.linked_pending.specs.Group.{Group, group_with}
 
@@ -21,6 +21,10 @@ node_places (first ∷ rest) others = node_place first ∷ node_places rest othe
 abbrev pub flat : List Group → List ℕ
 flat [] = []
 flat (first ∷ rest) = node_places first.nodes (end_place first.number ∷ flat rest)
+
+-- the places with a group's end, at the list's end where it is new
+abbrev pub opened : ℕ → List ℕ → List ℕ
+opened end places = if has end places then places else put_before 0 end places
 
 -- the groups with a node before the first group's nodes
 abbrev pub onto_first : ℕ → List Group → List Group

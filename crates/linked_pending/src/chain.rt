@@ -1,8 +1,7 @@
 //! A list of places in two tables of links. Place 0 is the list's own: it stands before the first and behind the last.
 
-ghost use Rattle.std.specs.Prelude.{◌≡◌, ℕ, ◌<◌, ◌≤◌, ◌∷◌, ◌⊎◌, [], false, true, nat_eq, OnOk, OnErr, length, max, vec_capacity};
-ghost use Rattle.std.specs.List.{IsDistinct};
-ghost use Rattle.linked_pending.specs.Listing.{has, put_before, without, behind_or, before_from};
+ghost use Rattle.std.specs.Prelude.{◌≡◌, ℕ, ◌<◌, ◌≤◌, ◌∷◌, ◌⊎◌, [], false, true, IsOk, OnOk, OnErr, length, max, vec_capacity};
+ghost use Rattle.linked_pending.specs.Listing.{AreApart, has, put_before, without, behind_or, before_from};
 ghost use Rattle.linked_pending.specs.Links.{AreInverse, crossed, link};
 
 use std::alloc::Global;
@@ -47,7 +46,7 @@ impl Chain {
     pub fn room(&self) -> usize
         ensures room { result ≡ self.now.room }
         ensures within { (place : ℕ) → has place self.now.items ≡ true → place < self.now.room }
-        ensures distinct { IsDistinct nat_eq (0 ∷ self.now.items) }
+        ensures apart { AreApart (0 ∷ self.now.items) }
     {
         self.nexts.len()
     }
@@ -83,6 +82,7 @@ impl Chain {
     pub fn reserve(&mut self, room: usize) -> Result<(), NoMemory>
         ensures ok { OnOk result (self.new ≡ record self.old { room = max self.old.room room }) }
         ensures err { OnErr result (self.new ≡ self.old) }
+        ensures enough { room ≤ self.old.room → IsOk result }
     {
         let len = self.nexts.len();
         if len < room {

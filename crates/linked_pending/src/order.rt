@@ -1,6 +1,6 @@
 //! A list of nodes, each at most once.
 
-ghost use Rattle.std.specs.Prelude.{◌≡◌, ◌↔◌, ℕ, ◌<◌, ◌^◌, ◌∷◌, ◌++◌, [], nat_eq, All, Contains, IsNone, IsErr, OnErr, OnOk, max, slice_get};
+ghost use Rattle.std.specs.Prelude.{◌≡◌, ◌↔◌, ℕ, ◌<◌, ◌≤◌, ◌^◌, ◌∷◌, ◌++◌, [], nat_eq, All, Contains, IsNone, IsErr, IsOk, OnErr, OnOk, max, slice_get};
 ghost use Rattle.std.specs.List.{IsDistinct};
 ghost use Rattle.linked_pending.specs.Listing.{without, next_in};
 ghost use Rattle.linked_pending.specs.Order.{node_at};
@@ -49,7 +49,7 @@ impl Order {
         ensures distinct { IsDistinct nat_eq self.now.items }
         ensures within { All (λ node. node < self.now.room) self.now.items }
     {
-        if self.chain.room() == 0 {
+        if self.room() == 0 {
             return None;
         }
         node_of(self.chain.after(0))
@@ -70,8 +70,12 @@ impl Order {
     pub fn reserve(&mut self, nodes: usize) -> Result<(), NoMemory>
         ensures ok { OnOk result (self.new ≡ record self.old { room = max self.old.room nodes }) }
         ensures err { OnErr result (self.new ≡ self.old) }
+        ensures enough { nodes ≤ self.old.room → IsOk result }
         ensures uncountable { nodes ≡ usize.MAX → IsErr result }
     {
+        if nodes <= self.room() {
+            return Ok(());
+        }
         if nodes == usize::MAX {
             return Err(NoMemory);
         }
@@ -99,7 +103,9 @@ impl Order {
 
     /// How many nodes there is room for.
     fn room(&self) -> usize
-        ensures { result ≡ self.now.room }
+        ensures room { result ≡ self.now.room }
+        ensures distinct { IsDistinct nat_eq self.now.items }
+        ensures within { All (λ node. node < self.now.room) self.now.items }
     {
         self.chain.room().saturating_sub(1)
     }

@@ -1,9 +1,9 @@
 //! Groups of nodes that wait, and groups of nodes that are frozen.
 
-ghost use Rattle.std.specs.Prelude.{◌≡◌, ◌↔◌, ℕ, ◌<◌, ◌≤◌, ◌+◌, ◌*◌, ◌^◌, [], false, None, IsNone, IsErr, OnErr, OnOk, length, max};
+ghost use Rattle.std.specs.Prelude.{◌≡◌, ◌↔◌, ℕ, ◌<◌, ◌≤◌, ◌+◌, ◌*◌, ◌^◌, [], false, None, IsNone, IsErr, IsOk, OnErr, OnOk, length, max};
 ghost use Rattle.linked_pending.specs.Links.{link};
 ghost use Rattle.linked_pending.specs.Group.{with_node, without_node, group_of, front_of};
-ghost use Rattle.linked_pending.specs.Layout.{has_node, parse};
+ghost use Rattle.linked_pending.specs.Layout.{has_node, opened, parse};
 ghost use Rattle.linked_pending.specs.Pending.{IsQueue, IsOrderly};
 
 use std::alloc::Global;
@@ -99,6 +99,7 @@ impl Pending {
     pub fn reserve(&mut self, nodes: usize, groups: usize) -> Result<(), NoMemory>
         ensures ok { OnOk result (self.new ≡ record self.old { room = max self.old.room (max nodes groups) }) }
         ensures err { OnErr result (self.new ≡ self.old) }
+        ensures enough { max nodes groups ≤ self.old.room → IsOk result }
         ensures uncountable { 2 ^ 63 ≤ max nodes groups → IsErr result }
     {
         let len = self.groups.len();
@@ -162,10 +163,19 @@ fn put(chain: &mut Chain, groups: &[usize], node: usize)
     ensures items { parse chain.new.items ≡ with_node (link groups.now node) node (parse chain.old.items) }
 {
     let end = 2 * groups[node] + 2;
+    open_group(chain, end);
+    chain.insert_before(end, 2 * node + 1);
+}
+
+/// Puts a group's end at the chain's end, where it isn't in the chain.
+fn open_group(chain: &mut Chain, end: usize)
+    requires item { 0 < end }
+    requires room { end < chain.old.room }
+    ensures { chain.new ≡ record chain.old { items = opened end chain.old.items } }
+{
     if !chain.contains(end) {
         chain.insert_before(0, end);
     }
-    chain.insert_before(end, 2 * node + 1);
 }
 
 /// Takes a node out of the chain, where it is in it, and its group's end where it was the last.
