@@ -142,6 +142,9 @@ group_of-without_node other node (first ∷ rest) =
     group_of_unless_empty other first.number (without node first.nodes) (without_node node rest)
     ∙ grind (arith, common_steps, has-without other node first.nodes, group_of-without_node other node rest)
 
+pub group_of_left : (node : ℕ) (groups : List Group) → group_of node (without_node node groups) ≡ None
+group_of_left node groups = group_of-without_node node node groups ∙ grind (arith, common_steps)
+
 -- which group a node is in
 pub group_of_member : (table : List ℕ) (node : ℕ) (groups : List Group) → AreMembers table groups → group_of node groups ≡ cond (has_node node groups) (Some (link table node)) None
 group_of_member table node [] members = refl

@@ -134,6 +134,10 @@ impl Pending {
         ensures left {
             self.new ≡ record self.old { waiting = without_node node self.old.waiting; frozen = without_node node self.old.frozen }
         }
+        ensures gone_waiting { group_of node self.new.waiting ≡ None }
+        ensures gone_frozen { group_of node self.new.frozen ≡ None }
+
+        // Where the node isn't in a list, that list stays.
         ensures not_waiting { group_of node self.old.waiting ≡ None → self.new.waiting ≡ self.old.waiting }
         ensures not_frozen { group_of node self.old.frozen ≡ None → self.new.frozen ≡ self.old.frozen }
     {

@@ -3,7 +3,7 @@ use Rattle.std.proofs.lemmas.Grind.{common_steps}
 use Rattle.linked_pending.specs.Group.{group_of, without_node}
 use Rattle.linked_pending.specs.Layout.{has_node, parse}
 use Rattle.linked_pending.specs.Pending.{Queues, IsQueue}
-use Rattle.linked_pending.proofs.GroupLemmas.{absent_from_no_group, without_node_absent}
+use Rattle.linked_pending.proofs.GroupLemmas.{absent_from_no_group, no_group_from_absent, without_node_absent, group_of_left}
 use Rattle.linked_pending.proofs.QueueLemmas.{queues, queues_left, absent_above}
 use Rattle.linked_pending.proofs.pending.Pending.leave.Goals as goal
 
@@ -33,3 +33,21 @@ returns-else-node-len-clause-left c =
     let same : queues (length c.self.inside.groups.items) (parse c.self.inside.waiting.items) (parse c.self.inside.frozen.items) ≡ queues (length c.self.inside.groups.items) (without_node c.args.node (parse c.self.inside.waiting.items)) (without_node c.args.node (parse c.self.inside.frozen.items)) =
       ap₂ (queues (length c.self.inside.groups.items)) waiting frozen in
     sym c.self.view_is ∙ same ∙ ap (λ (shown : Queues). queues shown.room (without_node c.args.node shown.waiting) (without_node c.args.node shown.frozen)) c.self.view_is
+
+pub returns-then-node-len-clause-gone_waiting : goal.returns-then-node-len-clause-gone_waiting
+returns-then-node-len-clause-gone_waiting c = ap (group_of c.args.node) c.take_out.ensures.items ∙ group_of_left c.args.node (parse c.self.inside.waiting.items)
+
+pub returns-then-node-len-clause-gone_frozen : goal.returns-then-node-len-clause-gone_frozen
+returns-then-node-len-clause-gone_frozen c = ap (group_of c.args.node) c.take_out-then-node-len.ensures.items ∙ group_of_left c.args.node (parse c.self.inside.frozen.items)
+
+pub returns-else-node-len-clause-gone_waiting : goal.returns-else-node-len-clause-gone_waiting
+returns-else-node-len-clause-gone_waiting c =
+    let above : length c.self.inside.groups.items ≤ c.args.node = grind (arith, common_steps) in
+    sym (ap (λ (shown : Queues). group_of c.args.node shown.waiting) c.self.view_is)
+    ∙ no_group_from_absent c.args.node (parse c.self.inside.waiting.items) (absent_above _ _ c.args.node c.self.invariant.first above)
+
+pub returns-else-node-len-clause-gone_frozen : goal.returns-else-node-len-clause-gone_frozen
+returns-else-node-len-clause-gone_frozen c =
+    let above : length c.self.inside.groups.items ≤ c.args.node = grind (arith, common_steps) in
+    sym (ap (λ (shown : Queues). group_of c.args.node shown.frozen) c.self.view_is)
+    ∙ no_group_from_absent c.args.node (parse c.self.inside.frozen.items) (absent_above _ _ c.args.node c.self.invariant.second above)
