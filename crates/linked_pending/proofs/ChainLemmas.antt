@@ -1,15 +1,15 @@
 -- One list in a table of links: what it tells, and what a change leaves.
-use Rattle.std.proofs.Common.{◌≡◌, ◌≢◌, ℕ, ◌+◌, ◌-◌, ◌<◌, ◌≤◌, Bool, true, false, not, ◌⊎◌, List, [], ◌∷◌, length, eqb, refl, sym, ap, ◌∙◌, subst, inl, inr, arith}
+use Rattle.std.proofs.Common.{◌≡◌, ◌≢◌, ℕ, ◌+◌, ◌-◌, ◌<◌, true, false, not, ◌⊎◌, List, [], ◌∷◌, length, eqb, refl, sym, ap, ◌∙◌, subst, inl, inr, arith}
 use Rattle.std.proofs.lemmas.Grind.{common_steps}
-use Rattle.std.proofs.lemmas.Bool.{eqb-true, eqb-false, false≢true, cases_eq, cases_lt}
+use Rattle.std.proofs.lemmas.Bool.{eqb-true, eqb-false, false≢true, cases_eq}
 use Rattle.std.specs.List.{IsDistinct, AllByRecursion}
 use Rattle.std.proofs.lemmas.Map.Keys.{IsDistinct-cons}
 use Rattle.std.proofs.lemmas.Map.Steps.{length-le_from_distinct_below}
 use Rattle.linked_pending.specs.Listing.{has, AreApart, without, put_before, before_from}
-use Rattle.linked_pending.specs.Links.{link, walk, Leads, AreInverse, crossed}
+use Rattle.linked_pending.specs.Links.{link, walk, AreInverse, crossed}
 use Rattle.linked_pending.specs.Chain.{Holds, IsChain}
 use Rattle.linked_pending.proofs.ListingLemmas.{has_first, has_rest, differs, length-without, length-put_before, has-without, has-put_before, apart-without, apart-put_before}
-use Rattle.linked_pending.proofs.LeadsLemmas.{length-walk, walk_leads, leads_frame, leads_without, leads_put, leads_moves, leads_before}
+use Rattle.linked_pending.proofs.LeadsLemmas.{length-walk, walk_leads, leads_without, leads_put, leads_moves, leads_before}
 use Rattle.linked_pending.proofs.CrossedLemmas.{length-crossed, crossed_one, crossed_two, crossed_other}
 
 differs_from_each : (item : ℕ) (items : List ℕ) → has item items ≡ false → AllByRecursion (λ other. eqb item other ≡ false) items
@@ -35,9 +35,9 @@ module _ (next prev items : List ℕ) (links : AreInverse next prev) (holds : Ho
   pub holds_without : Holds (crossed (link prev item) item next) (without item items)
   holds_without = record {
     leads = leads_without (link next) (link (crossed (link prev item) item next)) (link prev) (length next) item 0 links.back (links.forth item item_in)
-      (crossed_one next prev links (link prev item) item before_in item_in)
-      (crossed_other next prev links (link prev item) item before_in item_in)
-      (not_root item above) 0 items holds.leads holds.apart (not_root item above) (inside_all next items holds (omega arith));
+        (crossed_one next prev links (link prev item) item before_in item_in)
+        (crossed_other next prev links (link prev item) item before_in item_in)
+        (not_root item above) 0 items holds.leads holds.apart (not_root item above) (inside_all next items holds (omega arith));
     apart = (grind (arith, common_steps, has-without 0 item items, holds.apart.0), apart-without item items holds.apart.1);
     alone = λ place room absent. elim (cases_eq place item) [
       | inl same ↦ ap (link (crossed (link prev item) item next)) same ∙ crossed_two next prev links (link prev item) item before_in item_in ∙ links.forth item item_in ∙ sym same
@@ -65,17 +65,17 @@ module _ (next prev items : List ℕ) (links : AreInverse next prev) (holds : Ho
     pub holds_put : Holds (crossed (link prev spot) item next) (put_before spot item items)
     holds_put = record {
       leads = leads_put (link next) (link (crossed (link prev spot) item next)) (link prev) (length next) item spot 0 links.back (links.forth spot spot_in)
-        (crossed_one next prev links (link prev spot) item before_spot_in item_in ∙ holds.alone item item_in item_off)
-        (crossed_two next prev links (link prev spot) item before_spot_in item_in ∙ links.forth spot spot_in)
-        (crossed_other next prev links (link prev spot) item before_spot_in item_in)
-        0 items holds.leads holds.apart item_off spot_there (inside_all next items holds (omega arith));
+          (crossed_one next prev links (link prev spot) item before_spot_in item_in ∙ holds.alone item item_in item_off)
+          (crossed_two next prev links (link prev spot) item before_spot_in item_in ∙ links.forth spot spot_in)
+          (crossed_other next prev links (link prev spot) item before_spot_in item_in)
+          0 items holds.leads holds.apart item_off spot_there (inside_all next items holds (omega arith));
       apart = (grind (arith, common_steps, has-put_before 0 spot item items, holds.apart.0), apart-put_before spot item items holds.apart.1 absent);
       alone = λ place room gone.
-        let off : has place (0 ∷ items) ≡ false = grind (arith, common_steps, has-put_before place spot item items, gone) in
-        let other : place ≢ item = λ same. false≢true (sym gone ∙ grind (arith, common_steps, has-put_before place spot item items, same)) in
-        let room_before : place < length next = subst (λ len. place < len) (length-crossed next prev links (link prev spot) item before_spot_in item_in) room in
-        let still : link next place ≡ place = holds.alone place room_before off in
-        crossed_other next prev links (link prev spot) item before_spot_in item_in place (λ same. differs spot place (0 ∷ items) off spot_listed (sym (links.forth spot spot_in) ∙ ap (link next) (sym same) ∙ still)) other ∙ still;
+          let off : has place (0 ∷ items) ≡ false = grind (arith, common_steps, has-put_before place spot item items, gone) in
+          let other : place ≢ item = λ same. false≢true (sym gone ∙ grind (arith, common_steps, has-put_before place spot item items, same)) in
+          let room_before : place < length next = subst (λ len. place < len) (length-crossed next prev links (link prev spot) item before_spot_in item_in) room in
+          let still : link next place ≡ place = holds.alone place room_before off in
+          crossed_other next prev links (link prev spot) item before_spot_in item_in place (λ same. differs spot place (0 ∷ items) off spot_listed (sym (links.forth spot spot_in) ∙ ap (link next) (sym same) ∙ still)) other ∙ still;
       within = λ place there. subst (λ len. place < len) (sym (length-crossed next prev links (link prev spot) item before_spot_in item_in)) (grind (arith, common_steps, has-put_before place spot item items, holds.within place, there));
     }
 

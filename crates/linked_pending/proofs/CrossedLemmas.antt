@@ -1,5 +1,5 @@
 -- Tables of links in which what stands behind two places is exchanged.
-use Rattle.std.proofs.Common.{◌≡◌, ◌≢◌, ℕ, ◌<◌, List, length, get_or, set, refl, sym, ap, ◌∙◌, subst, inl, inr, arith}
+use Rattle.std.proofs.Common.{◌≡◌, ◌≢◌, ℕ, ◌<◌, List, length, set, sym, ap, ◌∙◌, subst, inl, inr, arith}
 use Rattle.std.proofs.lemmas.Grind.{common_steps}
 use Rattle.std.proofs.lemmas.List.{get_or-set_other, get_or-set_same}
 use Rattle.std.proofs.lemmas.Bool.{cases_eq}
@@ -104,5 +104,5 @@ module _ (next prev : List ℕ) (links : AreInverse next prev) (one two : ℕ) (
 pub inverse_crossed_at : (next prev : List ℕ) (one two behind_one behind_two : ℕ) → AreInverse next prev → one < length next → two < length next → behind_one ≡ link next one → behind_two ≡ link next two → AreInverse (set (set next one behind_two) two behind_one) (set (set prev behind_two one) behind_one two)
 inverse_crossed_at next prev one two behind_one behind_two links one_in two_in read_one read_two =
     subst (λ behind. AreInverse (set (set next one behind_two) two behind) (set (set prev behind_two one) behind two)) (sym read_one)
-      (subst (λ behind. AreInverse (set (set next one behind) two (link next one)) (set (set prev behind one) (link next one) two)) (sym read_two)
-        (inverse_crossed next prev links one two one_in two_in))
+    (subst (λ behind. AreInverse (set (set next one behind) two (link next one)) (set (set prev behind one) (link next one) two)) (sym read_two)
+    (inverse_crossed next prev links one two one_in two_in))

@@ -1,17 +1,17 @@
 -- What the front of a list of groups shows, and what always holds of the two lists.
-use Rattle.std.proofs.Common.{◌≡◌, ◌≢◌, ℕ, ◌+◌, ◌*◌, ◌/◌, ◌<◌, Bool, true, false, Some, None, ◌||◌, List, [], ◌∷◌, ◌++◌, length, eqb, refl, sym, ap, ◌∙◌, subst, arith}
+use Rattle.std.proofs.Common.{◌≡◌, ◌≢◌, ℕ, ◌/◌, ◌<◌, true, false, Some, ◌||◌, List, [], ◌∷◌, length, eqb, refl, sym, ap, ◌∙◌, arith}
 use Rattle.std.proofs.lemmas.Grind.{common_steps}
 use Rattle.std.proofs.lemmas.Bool.{false≢true}
 use Rattle.std.proofs.lemmas.List.Elements.{All-from_recursion}
 use Rattle.std.specs.Prelude.{Option, All, map, slice_get}
 use Rattle.std.specs.Option.{option_map}
-use Rattle.std.specs.List.{AllByRecursion, IsDistinct}
+use Rattle.std.specs.List.{AllByRecursion}
 use Rattle.linked_pending.specs.declared.pending.Place.{Place}
 use Rattle.linked_pending.specs.Listing.{Listing, has, AreApart, first_or}
 use Rattle.linked_pending.specs.Links.{link}
-use Rattle.linked_pending.specs.Group.{Group, front_of, nodes_of}
+use Rattle.linked_pending.specs.Group.{Group, front_of}
 use Rattle.linked_pending.specs.Layout.{end_place, node_places, flat, parse, has_group, has_node, is_empty, AreFull, AreMembers}
-use Rattle.linked_pending.specs.Pending.{Queues, IsOrderly, IsQueue, AreQueues}
+use Rattle.linked_pending.specs.Pending.{IsOrderly, IsQueue, AreQueues}
 use Rattle.linked_pending.proofs.ListingLemmas.{has_first}
 use Rattle.linked_pending.proofs.ChainLemmas.{distinct_from_apart}
 use Rattle.linked_pending.proofs.ApartLemmas.{apart-append}
@@ -81,5 +81,5 @@ orderly table waiting frozen room queues = record {
   waiting_once = distinct_from_apart _ (apart-numbers _ queues.first.full);
   frozen_once = distinct_from_apart _ (apart-numbers _ queues.second.full);
   nodes_once = distinct_from_apart _ (apart-append _ _ queues.first.apart queues.second.apart (λ node there.
-    has-nodes_of node (parse frozen.items) ∙ queues.once node (sym (has-nodes_of node (parse waiting.items)) ∙ there)));
+      has-nodes_of node (parse frozen.items) ∙ queues.once node (sym (has-nodes_of node (parse waiting.items)) ∙ there)));
 }

@@ -1,7 +1,7 @@
 -- Groups after a node has joined, and after one has left.
-use Rattle.std.proofs.Common.{◌≡◌, ◌≢◌, ℕ, ◌<◌, Bool, true, false, Some, None, cond, ◌||◌, List, [], ◌∷◌, ◌++◌, length, set, eqb, refl, sym, ap, ap₂, ◌∙◌, subst, arith}
+use Rattle.std.proofs.Common.{◌≡◌, ℕ, true, false, Some, None, cond, ◌||◌, List, [], ◌∷◌, ◌++◌, set, eqb, refl, sym, ap, ap₂, ◌∙◌, subst, arith}
 use Rattle.std.proofs.lemmas.Grind.{common_steps}
-use Rattle.std.proofs.lemmas.Bool.{eqb-true, eqb-false, false≢true}
+use Rattle.std.proofs.lemmas.Bool.{eqb-true, false≢true}
 use Rattle.linked_pending.specs.Listing.{has, AreApart, without}
 use Rattle.linked_pending.specs.Links.{link}
 use Rattle.linked_pending.specs.Group.{Group, group_with, with_node, unless_empty, without_node, group_of, nodes_of}
@@ -51,8 +51,8 @@ apart-with_node number node [] apart absent = (refl, tt)
 apart-with_node number node (first ∷ rest) apart absent =
     let absent_rest : has_node node rest ≡ false = grind (arith, common_steps) in
     let disjoint : (other : ℕ) → has other first.nodes ≡ true → has other (nodes_of (with_node number node rest)) ≡ false = λ other there.
-      let later : has_node other rest ≡ false = sym (has-nodes_of other rest) ∙ apart_disjoint first.nodes (nodes_of rest) apart other there in
-      has-nodes_of other (with_node number node rest) ∙ has_node-with_node other number node rest ∙ grind (arith, common_steps, later, eqb-true other node) in
+    let later : has_node other rest ≡ false = sym (has-nodes_of other rest) ∙ apart_disjoint first.nodes (nodes_of rest) apart other there in
+    has-nodes_of other (with_node number node rest) ∙ has_node-with_node other number node rest ∙ grind (arith, common_steps, later, eqb-true other node) in
     elim (eqb number first.number) as (λ test. AreApart (nodes_of (cond test (group_with first.number (first.nodes ++ node ∷ []) ∷ rest) (first ∷ with_node number node rest)))) [
       | true ↦ apart_insert first.nodes (nodes_of rest) node apart (has-nodes_of node (first ∷ rest) ∙ absent)
       | false ↦ apart_replace first.nodes (nodes_of rest) (nodes_of (with_node number node rest)) apart (apart-with_node number node rest (apart_tail first.nodes (nodes_of rest) apart) absent_rest) disjoint
@@ -86,9 +86,9 @@ has_group-without_node other node (first ∷ rest) absent =
 
 pub has_group_before : (other node : ℕ) (groups : List Group) → has_group other (without_node node groups) ≡ true → has_group other groups ≡ true
 has_group_before other node groups there = elim (has_group other groups) as (λ test. has_group other groups ≡ test → test ≡ true) [
-    | true ↦ λ found. refl
-    | false ↦ λ missed. absurd (false≢true (sym (has_group-without_node other node groups missed) ∙ there))
-  ] refl
+  | true ↦ λ found. refl
+  | false ↦ λ missed. absurd (false≢true (sym (has_group-without_node other node groups missed) ∙ there))
+] refl
 
 has_node_unless_empty : (other number : ℕ) (nodes : List ℕ) (others : List Group) → has_node other (unless_empty number nodes others) ≡ (has other nodes || has_node other others)
 has_node_unless_empty other number [] others = refl
@@ -117,7 +117,7 @@ pub members-without_node : (table : List ℕ) (node : ℕ) (groups : List Group)
 members-without_node table node [] members = tt
 members-without_node table node (first ∷ rest) members =
     members_unless_empty table first.number (without node first.nodes) (without_node node rest)
-      (λ other there. members.0 other (grind (arith, common_steps, has-without other node first.nodes))) (members-without_node table node rest members.1)
+    (λ other there. members.0 other (grind (arith, common_steps, has-without other node first.nodes))) (members-without_node table node rest members.1)
 
 nodes_of_unless_empty : (number : ℕ) (nodes : List ℕ) (others : List Group) → nodes_of (unless_empty number nodes others) ≡ nodes ++ nodes_of others
 nodes_of_unless_empty number [] others = refl
@@ -170,16 +170,17 @@ absent_from_missed_group table node (first ∷ rest) members missed =
 
 pub group_of_there : (table : List ℕ) (node : ℕ) (groups : List Group) → AreMembers table groups → has_node node groups ≡ true → has_group (link table node) groups ≡ true
 group_of_there table node groups members there = elim (has_group (link table node) groups) as (λ test. has_group (link table node) groups ≡ test → test ≡ true) [
-    | true ↦ λ found. refl
-    | false ↦ λ missed. absurd (false≢true (sym (absent_from_missed_group table node groups members missed) ∙ there))
-  ] refl
+  | true ↦ λ found. refl
+  | false ↦ λ missed. absurd (false≢true (sym (absent_from_missed_group table node groups members missed) ∙ there))
+] refl
 
 -- a node that isn't in the groups is given another group
 pub members_set : (table : List ℕ) (node number : ℕ) (groups : List Group) → has_node node groups ≡ false → AreMembers table groups → AreMembers (set table node number) groups
 members_set table node number [] absent members = tt
-members_set table node number (first ∷ rest) absent members =
-    (λ other there. link-set_other table node number other (differs other node first.nodes (grind (arith, common_steps)) there) ∙ members.0 other there,
-     members_set table node number rest (grind (arith, common_steps)) members.1)
+members_set table node number (first ∷ rest) absent members = (
+  λ other there. link-set_other table node number other (differs other node first.nodes (grind (arith, common_steps)) there) ∙ members.0 other there,
+  members_set table node number rest (grind (arith, common_steps)) members.1,
+)
 
 -- a node that isn't in the groups changes nothing by leaving
 pub without_node_absent : (node : ℕ) (groups : List Group) → AreFull groups → has_node node groups ≡ false → without_node node groups ≡ groups

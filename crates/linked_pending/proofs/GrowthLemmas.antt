@@ -27,19 +27,19 @@ module _ (next prev new new_prev : List ℕ) (room : ℕ) (more : length next < 
       | inr further ↦ let same = links.same_length in let len = grown.length_is in let read = grown_prev.alone place (omega arith) (omega arith) in omega arith
     ];
     back = λ place inside.
-      let len = grown.length_is in
-      let same = links.same_length in
-      elim (cases_lt place (length next)) [
-        | inl old ↦ let bound = links.next_in place old in ap (link new_prev) (grown.kept place old) ∙ grown_prev.kept _ (omega arith) ∙ links.back place old
-        | inr further ↦ ap (link new_prev) (grown.alone place further (omega arith)) ∙ grown_prev.alone place (omega arith) (omega arith)
-      ];
+        let len = grown.length_is in
+        let same = links.same_length in
+        elim (cases_lt place (length next)) [
+          | inl old ↦ let bound = links.next_in place old in ap (link new_prev) (grown.kept place old) ∙ grown_prev.kept _ (omega arith) ∙ links.back place old
+          | inr further ↦ ap (link new_prev) (grown.alone place further (omega arith)) ∙ grown_prev.alone place (omega arith) (omega arith)
+        ];
     forth = λ place inside.
-      let len = grown.length_is in
-      let same = links.same_length in
-      elim (cases_lt place (length next)) [
-        | inl old ↦ ap (link new) (grown_prev.kept place (omega arith)) ∙ grown.kept _ (links.prev_in place old) ∙ links.forth place old
-        | inr further ↦ ap (link new) (grown_prev.alone place (omega arith) (omega arith)) ∙ grown.alone place further (omega arith)
-      ];
+        let len = grown.length_is in
+        let same = links.same_length in
+        elim (cases_lt place (length next)) [
+          | inl old ↦ ap (link new) (grown_prev.kept place (omega arith)) ∙ grown.kept _ (links.prev_in place old) ∙ links.forth place old
+          | inr further ↦ ap (link new) (grown_prev.alone place (omega arith) (omega arith)) ∙ grown.alone place further (omega arith)
+        ];
   }
 
   module _ (items : List ℕ) (holds : Holds next items) where
@@ -67,7 +67,7 @@ module _ (next prev new new_prev : List ℕ) (room : ℕ) (more : length next < 
 pub seen_grown : (next prev new new_prev : List ℕ) (room len : ℕ) → IsChain next prev len → length next < room → IsGrown next new room → IsGrown prev new_prev room → Seen new new_prev (walk len (link next) 0) len
 seen_grown next prev new new_prev room len chain more grown grown_prev =
     seen_from new new_prev _ len (inverse_grown next prev new new_prev room more grown grown_prev chain.links)
-      (holds_grown next prev new new_prev room more grown grown_prev chain.links _ chain.holds) (length-walk len (link next) 0)
+    (holds_grown next prev new new_prev room more grown grown_prev chain.links _ chain.holds) (length-walk len (link next) 0)
 
 -- a table that has grown after its memory was reserved, by clauses that speak of its length
 pub grown_from : (old reserved new : List ℕ) (len room : ℕ) → reserved ≡ old → len ≡ length old → length new ≡ room → ((place : ℕ) → place < len → link new place ≡ link reserved place) → ((place : ℕ) → len ≤ place → place < room → link new place ≡ place) → IsGrown old new room

@@ -1,11 +1,11 @@
 -- Groups in one flat list: what it shows, and how a node joins.
-use Rattle.std.proofs.Common.{◌≡◌, ◌≢◌, ℕ, ◌+◌, ◌-◌, ◌*◌, ◌/◌, ◌%◌, ◌<◌, Bool, true, false, cond, ◌||◌, List, [], ◌∷◌, ◌++◌, eqb, refl, sym, ap, ◌∙◌, subst, arith}
+use Rattle.std.proofs.Common.{◌≡◌, ◌≢◌, ℕ, ◌+◌, ◌-◌, ◌*◌, ◌/◌, ◌%◌, true, false, cond, ◌||◌, List, [], ◌∷◌, ◌++◌, eqb, refl, sym, ap, ◌∙◌, arith}
 use Rattle.std.proofs.lemmas.Grind.{common_steps}
 use Rattle.std.proofs.lemmas.Bool.{false≢true, eq-eqb, ne_eqb}
 use Rattle.linked_pending.specs.Listing.{has, put_before}
 use Rattle.linked_pending.specs.Group.{Group, group_with, with_node}
 use Rattle.linked_pending.specs.Layout.{node_place, end_place, node_places, flat, opened, onto_first, parse, has_group, has_node}
-use Rattle.linked_pending.proofs.ListingLemmas.{has_first, has-put_before}
+use Rattle.linked_pending.proofs.ListingLemmas.{has-put_before}
 
 -- places of nodes are odd, and places of ends are even and not 0
 pub end_even : (number : ℕ) → eqb ((2 * number + 2) % 2) 0 ≡ true

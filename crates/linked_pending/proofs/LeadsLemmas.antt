@@ -1,8 +1,8 @@
 -- Lists that links lead through, after a link or two has changed.
-use Rattle.std.proofs.Common.{◌≡◌, ◌≢◌, ℕ, zero, suc, ◌<◌, Bool, true, false, cond, ◌⊎◌, List, [], ◌∷◌, length, eqb, refl, sym, ap, ap₂, ◌∙◌, subst, inl, inr, arith}
+use Rattle.std.proofs.Common.{◌≡◌, ◌≢◌, ℕ, zero, suc, ◌<◌, true, false, cond, ◌⊎◌, List, [], ◌∷◌, length, eqb, refl, sym, ap, ap₂, ◌∙◌, subst, inl, inr, arith}
 use Rattle.std.proofs.lemmas.Grind.{common_steps}
 use Rattle.std.proofs.lemmas.Bool.{eqb-true, eqb-false, false≢true}
-use Rattle.linked_pending.specs.Listing.{has, AreApart, without, put_before, first_or, behind_or, before_from}
+use Rattle.linked_pending.specs.Listing.{has, AreApart, without, put_before, behind_or, before_from}
 use Rattle.linked_pending.specs.Links.{walk, Leads}
 use Rattle.linked_pending.proofs.ListingLemmas.{has_first, has_rest, differs, without_absent}
 
@@ -29,7 +29,7 @@ skip_first next new start first (second ∷ rest) end moved leads same = (moved 
 
 -- the place before the one that goes leads to the place behind it
 module _ (next new prev : ℕ → ℕ) (room gone end : ℕ) (back : (place : ℕ) → place < room → prev (next place) ≡ place) (forth : next (prev gone) ≡ gone)
-  (moved : new (prev gone) ≡ next gone) (others : (place : ℕ) → place ≢ prev gone → place ≢ gone → new place ≡ next place) (end_other : end ≢ gone) where
+    (moved : new (prev gone) ≡ next gone) (others : (place : ℕ) → place ≢ prev gone → place ≢ gone → new place ≡ next place) (end_other : end ≢ gone) where
   pub leads_without : (start : ℕ) (items : List ℕ) → Leads next start items end → AreApart (start ∷ items) → start ≢ gone → ((place : ℕ) → has place (start ∷ items) ≡ true → place < room) → Leads new start (without gone items) end
   leads_without start [] leads apart start_other inside = others start (λ same. end_other (sym leads ∙ ap next same ∙ forth)) start_other ∙ leads
   leads_without start (first ∷ rest) leads apart start_other inside =
@@ -39,17 +39,18 @@ module _ (next new prev : ℕ → ℕ) (room gone end : ℕ) (back : (place : �
             let before : prev gone ≡ start = ap prev same ∙ ap prev (sym leads.0) ∙ back start (inside start (has_first start (first ∷ rest))) in
             let absent : has gone rest ≡ false = ap (λ place. has place rest) same ∙ apart.1.0 in
             subst (λ left. Leads new start left end) (sym (without_absent gone rest absent))
-              (skip_first next new start first rest end (ap new (sym before) ∙ moved ∙ ap next same) leads.1
-                (λ place there. others place (λ at_start. differs place start (first ∷ rest) apart.0 (has_rest place first rest there) (at_start ∙ before)) (differs place gone rest absent there)))
+            (skip_first next new start first rest end (ap new (sym before) ∙ moved ∙ ap next same) leads.1
+            (λ place there. others place (λ at_start. differs place start (first ∷ rest) apart.0 (has_rest place first rest there) (at_start ∙ before)) (differs place gone rest absent there)))
         | false ↦ λ missed.
-            let first_other : first ≢ gone = λ same. eqb-false gone first missed (sym same) in
-            (others start (λ same. first_other (sym leads.0 ∙ ap next same ∙ forth)) start_other ∙ leads.0,
-             leads_without first rest leads.1 apart.1 first_other (λ place there. inside place (has_rest place start (first ∷ rest) there)))
+            let first_other : first ≢ gone = λ same. eqb-false gone first missed (sym same) in (
+              others start (λ same. first_other (sym leads.0 ∙ ap next same ∙ forth)) start_other ∙ leads.0,
+              leads_without first rest leads.1 apart.1 first_other (λ place there. inside place (has_rest place start (first ∷ rest) there)),
+            )
       ] refl
 
 -- the place before the spot leads to the new one, and that to the spot
 module _ (next new prev : ℕ → ℕ) (room item spot end : ℕ) (back : (place : ℕ) → place < room → prev (next place) ≡ place) (forth : next (prev spot) ≡ spot)
-  (into : new (prev spot) ≡ item) (out : new item ≡ spot) (others : (place : ℕ) → place ≢ prev spot → place ≢ item → new place ≡ next place) where
+    (into : new (prev spot) ≡ item) (out : new item ≡ spot) (others : (place : ℕ) → place ≢ prev spot → place ≢ item → new place ≡ next place) where
   pub leads_put : (start : ℕ) (items : List ℕ) → Leads next start items end → AreApart (start ∷ items) → has item (start ∷ items) ≡ false → (spot ≡ end) ⊎ (has spot items ≡ true) → ((place : ℕ) → has place (start ∷ items) ≡ true → place < room) → Leads new start (put_before spot item items) end
   leads_put start [] leads apart absent spot_there inside =
       let at_end : spot ≡ end = elim spot_there [ inl same ↦ same | inr impossible ↦ absurd (false≢true impossible) ] in
@@ -65,9 +66,10 @@ module _ (next new prev : ℕ → ℕ) (room item spot end : ℕ) (back : (place
         | false ↦ λ missed.
             let start_other : start ≢ prev spot = λ same. eqb-false spot first missed (sym forth ∙ ap next (sym same) ∙ leads.0) in
             let start_old : start ≢ item = differs start item (start ∷ first ∷ rest) absent (has_first start (first ∷ rest)) in
-            let spot_later : (spot ≡ end) ⊎ (has spot rest ≡ true) = elim spot_there [ inl same ↦ inl same | inr there ↦ inr (grind (arith, common_steps)) ] in
-            (others start start_other start_old ∙ leads.0,
-             leads_put first rest leads.1 apart.1 (grind (arith, common_steps, absent)) spot_later (λ place there. inside place (has_rest place start (first ∷ rest) there)))
+            let spot_later : (spot ≡ end) ⊎ (has spot rest ≡ true) = elim spot_there [ inl same ↦ inl same | inr there ↦ inr (grind (arith, common_steps)) ] in (
+              others start start_other start_old ∙ leads.0,
+              leads_put first rest leads.1 apart.1 (grind (arith, common_steps, absent)) spot_later (λ place there. inside place (has_rest place start (first ∷ rest) there)),
+            )
       ] refl
 
 first_moves : (next : ℕ → ℕ) (first : ℕ) (rest : List ℕ) (end : ℕ) → Leads next first rest end → first ≢ end → has first rest ≡ false → next first ≢ first

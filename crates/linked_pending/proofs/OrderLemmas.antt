@@ -1,16 +1,12 @@
 -- Lists of nodes by the lists of their places.
-use Rattle.std.proofs.Common.{◌≡◌, ◌≢◌, ℕ, zero, ◌+◌, ◌-◌, ◌<◌, ◌≤◌, Bool, true, false, Some, None, cond, List, [], ◌∷◌, ◌++◌, length, eqb, refl, sym, ap, ◌∙◌, subst, arith}
+use Rattle.std.proofs.Common.{◌≡◌, ℕ, ◌+◌, ◌-◌, ◌<◌, ◌≤◌, true, false, None, cond, List, [], ◌∷◌, ◌++◌, eqb, refl, sym, ap, ◌∙◌, arith}
 use Rattle.std.proofs.lemmas.Grind.{common_steps}
-use Rattle.std.proofs.lemmas.Bool.{eqb-true, eq-eqb, false≢true, cases_eq}
+use Rattle.std.proofs.lemmas.Bool.{eqb-true}
 use Rattle.std.proofs.lemmas.Map.Views.{Contains-from_any, list_any-from_Contains, All-from_any}
-use Rattle.std.proofs.lemmas.Map.Keys.{IsDistinct-cons}
 use Rattle.std.specs.Cmp.{nat_eq_equiv}
 use Rattle.std.specs.Prelude.{All, Contains, slice_get, Option, IsNone, ◌↔◌}
-use Rattle.std.specs.List.{IsDistinct}
-use Rattle.linked_pending.specs.Listing.{Listing, has, AreApart, without, put_before, first_or, behind_or, next_in}
+use Rattle.linked_pending.specs.Listing.{has, AreApart, without, put_before, first_or, behind_or, next_in}
 use Rattle.linked_pending.specs.Order.{nodes_at, node_at}
-use Rattle.linked_pending.proofs.ListingLemmas.{has_first, without_absent}
-use Rattle.linked_pending.proofs.ChainLemmas.{distinct_from_apart}
 
 place_eq : (node place : ℕ) → eqb 0 place ≡ false → eqb (node + 1) place ≡ eqb node (place - 1)
 place_eq node place above = grind (arith, common_steps)

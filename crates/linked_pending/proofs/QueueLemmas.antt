@@ -1,10 +1,10 @@
 -- Chains of groups beside a table of groups, after a node has joined, has left, and where the table has grown.
-use Rattle.std.proofs.Common.{◌≡◌, ◌≢◌, ℕ, ◌+◌, ◌*◌, ◌%◌, ◌<◌, ◌≤◌, ◌^◌, Bool, true, false, cond, ◌||◌, List, [], ◌∷◌, ◌++◌, length, set, eqb, refl, sym, ap, ◌∙◌, subst, arith}
+use Rattle.std.proofs.Common.{◌≡◌, ℕ, ◌+◌, ◌*◌, ◌%◌, ◌<◌, ◌≤◌, ◌^◌, true, false, List, [], ◌∷◌, length, set, eqb, refl, sym, ap, ◌∙◌, subst, arith}
 use Rattle.std.proofs.lemmas.Grind.{common_steps}
-use Rattle.std.proofs.lemmas.Bool.{eqb-true, eqb-false, false≢true, eq-eqb, ne_eqb}
+use Rattle.std.proofs.lemmas.Bool.{eqb-true, eq-eqb, ne_eqb}
 use Rattle.linked_pending.specs.Listing.{Listing, has, AreApart, without, put_before, before_from}
 use Rattle.linked_pending.specs.Links.{link}
-use Rattle.linked_pending.specs.Group.{Group, group_with, with_node, without_node, nodes_of}
+use Rattle.linked_pending.specs.Group.{Group, with_node, without_node, nodes_of}
 use Rattle.linked_pending.specs.Layout.{node_place, end_place, flat, opened, parse, has_group, has_node, AreFull, AreMembers}
 use Rattle.linked_pending.specs.Pending.{Queues, IsQueue, AreQueues}
 use Rattle.linked_pending.proofs.GrowthLemmas.{IsGrown}
@@ -58,16 +58,16 @@ module _ (table : List ℕ) (chain : Listing) (queue : IsQueue table chain) (nod
     pub joined : (new : Listing) → new ≡ record mid { items = put_before (2 * link table node + 2) (2 * node + 1) mid.items } → IsStored table new (with_node (link table node) node (parse chain.items))
     joined new new_is =
         let items_are : new.items ≡ put_before (end_place (link table node)) (node_place node) (opened (end_place (link table node)) chain.items) =
-          ap (λ (listing : Listing). listing.items) new_is ∙ ap (λ (listing : Listing). put_before (end_place (link table node)) (node_place node) listing.items) mid_is in
+        ap (λ (listing : Listing). listing.items) new_is ∙ ap (λ (listing : Listing). put_before (end_place (link table node)) (node_place node) listing.items) mid_is in
         let room_is : new.room ≡ chain.room = ap (λ (listing : Listing). listing.room) new_is ∙ ap (λ (listing : Listing). listing.room) mid_is in
         stored table new _
-          (items_are ∙ ap (λ places. put_before (end_place (link table node)) (node_place node) (opened (end_place (link table node)) places)) queue.is_flat ∙ flat-with_node (link table node) node (parse chain.items))
-          (λ number inside. subst (λ room. 2 * number + 2 < room) (sym room_is) (queue.room number inside))
-          (full-with_node (link table node) node _ queue.full)
-          (apart-with_node (link table node) node _ queue.apart absent)
-          (members-with_node table (link table node) node _ refl queue.members)
-          (λ number there. grind (arith, common_steps, has_group-with_node number (link table node) node (parse chain.items), queue.groups_in number, eqb-true number (link table node)))
-          (λ other there. grind (arith, common_steps, has_node-with_node other (link table node) node (parse chain.items), queue.nodes_in other, eqb-true other node))
+        (items_are ∙ ap (λ places. put_before (end_place (link table node)) (node_place node) (opened (end_place (link table node)) places)) queue.is_flat ∙ flat-with_node (link table node) node (parse chain.items))
+        (λ number inside. subst (λ room. 2 * number + 2 < room) (sym room_is) (queue.room number inside))
+        (full-with_node (link table node) node _ queue.full)
+        (apart-with_node (link table node) node _ queue.apart absent)
+        (members-with_node table (link table node) node _ refl queue.members)
+        (λ number there. grind (arith, common_steps, has_group-with_node number (link table node) node (parse chain.items), queue.groups_in number, eqb-true number (link table node)))
+        (λ other there. grind (arith, common_steps, has_node-with_node other (link table node) node (parse chain.items), queue.nodes_in other, eqb-true other node))
 
   pub left_absent : has (2 * node + 1) chain.items ≡ false → parse chain.items ≡ without_node node (parse chain.items)
   left_absent absent = sym (without_node_absent node _ queue.full (sym (node_listed node) ∙ absent))
@@ -75,12 +75,12 @@ module _ (table : List ℕ) (chain : Listing) (queue : IsQueue table chain) (nod
   left_stored : (new : Listing) → new.room ≡ chain.room → new.items ≡ flat (without_node node (parse chain.items)) → IsStored table new (without_node node (parse chain.items))
   left_stored new room_is are_flat =
       stored table new _ are_flat
-        (λ number inside. subst (λ room. 2 * number + 2 < room) (sym room_is) (queue.room number inside))
-        (full-without_node node _ queue.full)
-        (apart-without_node node (parse chain.items) queue.apart)
-        (members-without_node table node _ queue.members)
-        (λ number there. queue.groups_in number (has_group_before number node _ there))
-        (λ other there. queue.nodes_in other (grind (arith, common_steps, has_node-without_node other node (parse chain.items))))
+      (λ number inside. subst (λ room. 2 * number + 2 < room) (sym room_is) (queue.room number inside))
+      (full-without_node node _ queue.full)
+      (apart-without_node node (parse chain.items) queue.apart)
+      (members-without_node table node _ queue.members)
+      (λ number there. queue.groups_in number (has_group_before number node _ there))
+      (λ other there. queue.nodes_in other (grind (arith, common_steps, has_node-without_node other node (parse chain.items))))
 
   -- the node was in the chain, and has been taken out
   module _ (there : has (2 * node + 1) chain.items ≡ true) (mid : Listing) (mid_is : mid ≡ record chain { items = without (2 * node + 1) chain.items }) where
@@ -107,13 +107,13 @@ module _ (table : List ℕ) (chain : Listing) (queue : IsQueue table chain) (nod
     pub left_empty : (new : Listing) → before_from 0 (2 * link table node + 2) mid.items % 2 ≡ 0 → new ≡ record mid { items = without (2 * link table node + 2) mid.items } → IsStored table new (without_node node (parse chain.items))
     left_empty new even new_is =
         left_stored new (ap (λ (listing : Listing). listing.room) new_is ∙ ap (λ (listing : Listing). listing.room) mid_is)
-          (ap (λ (listing : Listing). listing.items) new_is ∙ ap (without (end_place (link table node))) mid_flat
-          ∙ drop_node_gone table node _ queue.full queue.members group_found (sym even_is ∙ eq-eqb _ _ even))
+        (ap (λ (listing : Listing). listing.items) new_is ∙ ap (without (end_place (link table node))) mid_flat
+        ∙ drop_node_gone table node _ queue.full queue.members group_found (sym even_is ∙ eq-eqb _ _ even))
 
     pub left_some : (before_from 0 (2 * link table node + 2) mid.items % 2 ≡ 0 → ⊥) → IsStored table mid (without_node node (parse chain.items))
     left_some odd =
         left_stored mid (ap (λ (listing : Listing). listing.room) mid_is)
-          (mid_flat ∙ ap flat (drop_node_kept table node _ queue.full queue.members (sym even_is ∙ ne_eqb _ _ odd)))
+        (mid_flat ∙ ap flat (drop_node_kept table node _ queue.full queue.members (sym even_is ∙ ne_eqb _ _ odd)))
 
 -- a chain without the node, where the table gives the node another group
 pub queue_set : (table : List ℕ) (chain : Listing) (node number : ℕ) → IsQueue table chain → has_node node (parse chain.items) ≡ false → IsQueue (set table node number) chain
@@ -146,9 +146,10 @@ queues_left table waiting frozen new_waiting new_frozen node queues first second
 -- the table and the chain have grown
 members_grown : (table new : List ℕ) (groups : List Group) → ((place : ℕ) → place < length table → link new place ≡ link table place) → ((node : ℕ) → has_node node groups ≡ true → node < length table) → AreMembers table groups → AreMembers new groups
 members_grown table new [] kept within members = tt
-members_grown table new (first ∷ rest) kept within members =
-    (λ node there. kept node (within node (grind (arith, common_steps))) ∙ members.0 node there,
-     members_grown table new rest kept (λ node there. within node (grind (arith, common_steps))) members.1)
+members_grown table new (first ∷ rest) kept within members = (
+  λ node there. kept node (within node (grind (arith, common_steps))) ∙ members.0 node there,
+  members_grown table new rest kept (λ node there. within node (grind (arith, common_steps))) members.1,
+)
 
 queue_grown : (table new : List ℕ) (chain more : Listing) (room : ℕ) → IsQueue table chain → more.items ≡ chain.items → length table ≤ room → 2 * room + 1 ≤ more.room → IsGrown table new room → IsQueue new more
 queue_grown table new chain more room queue same_items grows space grown =

@@ -1,5 +1,5 @@
 -- One list in a table of links. Place 0 stands before its first place and behind its last.
-use Rattle.std.specs.Prelude.{◌≡◌, ℕ, ◌<◌, Bool, true, false, List, ◌∷◌, length}
+use Rattle.std.specs.Prelude.{◌≡◌, ℕ, ◌<◌, true, false, List, ◌∷◌, length}
 use Rattle.linked_pending.specs.Listing.{has, AreApart}
 use Rattle.linked_pending.specs.Links.{link, walk, Leads, AreInverse}
 

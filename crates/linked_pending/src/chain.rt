@@ -4,10 +4,9 @@ ghost use Rattle.std.specs.Prelude.{◌≡◌, ℕ, ◌<◌, ◌≤◌, ◌∷�
 ghost use Rattle.linked_pending.specs.Listing.{AreApart, has, put_before, without, behind_or, before_from};
 ghost use Rattle.linked_pending.specs.Links.{AreInverse, crossed, link};
 
+use crate::fault::NoMemory;
 use std::alloc::Global;
 use std::marker::Model;
-
-use crate::fault::NoMemory;
 
 /// A list of places, each at most once. A place that isn't in it is linked to itself in both tables.
 #[derive(Drop)]

@@ -5,11 +5,10 @@ ghost use Rattle.std.specs.List.{IsDistinct};
 ghost use Rattle.linked_pending.specs.Listing.{without, next_in};
 ghost use Rattle.linked_pending.specs.Order.{node_at};
 
-use std::alloc::Global;
-use std::marker::Model;
-
 use crate::chain::Chain;
 use crate::fault::NoMemory;
+use std::alloc::Global;
+use std::marker::Model;
 
 /// A list of nodes in the order in which they were pushed. A node is a number, and stands at most once. The list has a
 /// room: the nodes that it can hold are those below it.

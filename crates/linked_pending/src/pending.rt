@@ -6,12 +6,11 @@ ghost use Rattle.linked_pending.specs.Group.{with_node, without_node, group_of, 
 ghost use Rattle.linked_pending.specs.Layout.{has_node, opened, parse};
 ghost use Rattle.linked_pending.specs.Pending.{IsQueue, IsOrderly};
 
+use crate::chain::{Chain, grow};
+use crate::fault::NoMemory;
 use std::alloc::Global;
 use std::marker::Model;
 use std::mem;
-
-use crate::chain::{Chain, grow};
-use crate::fault::NoMemory;
 
 /// The most nodes and groups that a table of their places can count.
 const MOST: usize = usize::MAX / 2;
@@ -42,9 +41,7 @@ impl Model for Pending {
 
     ghost Value = { Queues };
 
-    ghost view = {
-        λ p. record { room = length p.groups.items; waiting = parse p.waiting.items; frozen = parse p.frozen.items }
-    };
+    ghost view = { λ p. record { room = length p.groups.items; waiting = parse p.waiting.items; frozen = parse p.frozen.items } };
 
     ghost invariant = { λ p. AreQueues p.groups.items p.waiting p.frozen };
 }
@@ -131,9 +128,7 @@ impl Pending {
     /// Takes a node out of its group, whether that waits or is frozen, and the group out of its list where the node was
     /// its last. A node that is in no group changes nothing.
     pub fn leave(&mut self, node: usize)
-        ensures left {
-            self.new ≡ record self.old { waiting = without_node node self.old.waiting; frozen = without_node node self.old.frozen }
-        }
+        ensures left { self.new ≡ record self.old { waiting = without_node node self.old.waiting; frozen = without_node node self.old.frozen } }
         ensures gone_waiting { group_of node self.new.waiting ≡ None }
         ensures gone_frozen { group_of node self.new.frozen ≡ None }
 

@@ -2,11 +2,10 @@
 
 ghost use Rattle.std.specs.Prelude.{◌≡◌, ◌<◌, ◌^◌, OnOk};
 
+use crate::{NoMemory, Order, Pending, Place};
 use std::alloc::{AllocError, Global};
 use std::mem;
 use std::test::*;
-
-use crate::{NoMemory, Order, Pending, Place};
 
 /// How many nodes the random steps move.
 const NODES: usize = 64;
@@ -41,7 +40,10 @@ impl Drill {
         requires { 0 < bound }
         ensures { result < bound }
     {
-        self.seed = self.seed.wrapping_mul(6364136223846793005).wrapping_add(1442695040888963407);
+        self.seed = self
+            .seed
+            .wrapping_mul(6364136223846793005)
+            .wrapping_add(1442695040888963407);
         (self.seed >> 33) as usize % bound
     }
 
@@ -167,9 +169,17 @@ fn a_million_random_steps_keep_to_plain_lists(rt: HostRuntime) -> Result<(), Fai
     for turn in 0..5_000 {
         let step = drill.step();
         plain.follow(rt.alloc(), step)?;
-        assert_eq!(rt; drill.pending.front(), plain.front(), "front after {turn}, {step:?}");
+        assert_eq!(rt;
+            drill.pending.front(),
+            plain.front(),
+            "front after {turn}, {step:?}"
+        );
         let node = drill.below(NODES);
-        assert_eq!(rt; drill.pending.frozen_group(node), plain.frozen_group(node), "group of {node} after {turn}, {step:?}");
+        assert_eq!(rt;
+            drill.pending.frozen_group(node),
+            plain.frozen_group(node),
+            "group of {node} after {turn}, {step:?}"
+        );
     }
     for _ in 5_000..1_000_000 {
         drill.step();
@@ -194,7 +204,11 @@ fn groups_freeze_in_the_order_in_which_they_began_to_wait(rt: HostRuntime) -> Re
     assert_eq!(rt; pending.frozen_group(4), Some(0));
     assert_eq!(rt; pending.frozen_group(2), None, "it waits");
     pending.leave(1);
-    assert_eq!(rt; pending.front(), Some(Place { group: 0, node: 4 }), "group 3 is empty and gone");
+    assert_eq!(rt;
+        pending.front(),
+        Some(Place { group: 0, node: 4 }),
+        "group 3 is empty and gone"
+    );
     Ok(())
 }
 

@@ -1,4 +1,4 @@
-use Rattle.std.proofs.Common.{◌≡◌, ℕ, ◌+◌, ◌*◌, true, false, inr}
+use Rattle.std.proofs.Common.{inr}
 use Rattle.linked_pending.proofs.QueueLemmas.{end_opened, node_off, joined}
 use Rattle.linked_pending.proofs.pending.put.Goals as goal
 

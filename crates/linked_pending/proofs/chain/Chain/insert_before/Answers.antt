@@ -30,5 +30,5 @@ returns c =
     let spot = subst (λ (places : List ℕ). (c.args.spot ≡ 0) ⊎ (has c.args.spot places ≡ true)) items c.requires.spot in
     let room_is : length c.cross.new.nexts.items ≡ c.args.self.now.room = grind (arith, common_steps) in
     ap₂ listing room_is
-      ((seen_put _ _ _ _ _ _ _ _ c.self.invariant c.requires.item room absent spot before c.cross.ensures.crossed c.cross.ensures.links).items_are
-      ∙ ap (λ (listing : Listing). put_before c.args.spot c.args.place listing.items) c.self.view_is)
+    ((seen_put _ _ _ _ _ _ _ _ c.self.invariant c.requires.item room absent spot before c.cross.ensures.crossed c.cross.ensures.links).items_are
+    ∙ ap (λ (listing : Listing). put_before c.args.spot c.args.place listing.items) c.self.view_is)

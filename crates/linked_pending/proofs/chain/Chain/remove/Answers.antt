@@ -27,8 +27,8 @@ returns c =
     let linked : link c.self.inside.nexts.items c.args.place ≢ c.args.place = grind (arith, common_steps) in
     let room_is : length c.cross.new.nexts.items ≡ c.args.self.now.room = grind (arith, common_steps) in
     ap₂ listing room_is
-      ((seen_without _ _ _ _ _ _ _ c.self.invariant c.requires.item room linked before c.cross.ensures.crossed c.cross.ensures.links).0.items_are
-      ∙ ap (λ (listing : Listing). without c.args.place listing.items) c.self.view_is)
+    ((seen_without _ _ _ _ _ _ _ c.self.invariant c.requires.item room linked before c.cross.ensures.crossed c.cross.ensures.links).0.items_are
+    ∙ ap (λ (listing : Listing). without c.args.place listing.items) c.self.view_is)
 
 pub overflow_sub-self : goal.overflow_sub-self
 overflow_sub-self c =

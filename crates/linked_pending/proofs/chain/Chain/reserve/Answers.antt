@@ -1,5 +1,4 @@
-use Rattle.std.proofs.Common.{◌≡◌, ℕ, ◌<◌, List, length, max, sym, ap, ap₂, ◌∙◌, arith, rules}
-use Rattle.std.proofs.lemmas.Grind.{common_steps}
+use Rattle.std.proofs.Common.{◌≡◌, length, max, sym, ap, ap₂, ◌∙◌, arith, rules}
 use Rattle.linked_pending.specs.Listing.{Listing}
 use Rattle.linked_pending.proofs.ListingLemmas.{listing}
 use Rattle.linked_pending.proofs.GrowthLemmas.{seen_grown, grown_from}
@@ -12,8 +11,8 @@ invariant_of-self-then-len-room c =
     let own = c.grow.ensures in
     let back = c.grow-then-len-room.ensures in
     (seen_grown _ _ _ _ c.args.room c.self.inside.len c.self.invariant (omega arith)
-      (grown_from _ _ _ _ c.args.room c.in_ok-reserve.ensures.items len own.room own.kept own.alone)
-      (grown_from _ _ _ _ c.args.room c.in_ok-reserve-2.ensures.items len_prev back.room back.kept back.alone)).chain
+    (grown_from _ _ _ _ c.args.room c.in_ok-reserve.ensures.items len own.room own.kept own.alone)
+    (grown_from _ _ _ _ c.args.room c.in_ok-reserve-2.ensures.items len_prev back.room back.kept back.alone)).chain
 
 pub returns-in_ok-reserve-2-clause-ok : goal.returns-in_ok-reserve-2-clause-ok
 returns-in_ok-reserve-2-clause-ok c =
@@ -24,7 +23,7 @@ returns-in_ok-reserve-2-clause-ok c =
     let room_before : length c.self.inside.nexts.items ≡ c.args.self.now.room = ap (λ (listing : Listing). listing.room) c.self.view_is in
     let room_is : length c.grow.new.links.items ≡ max c.args.self.now.room c.args.room = own.room ∙ omega arith in
     ap₂ listing room_is
-      ((seen_grown _ _ _ _ c.args.room c.self.inside.len c.self.invariant (omega arith)
-        (grown_from _ _ _ _ c.args.room c.in_ok-reserve.ensures.items len own.room own.kept own.alone)
-        (grown_from _ _ _ _ c.args.room c.in_ok-reserve-2.ensures.items len_prev back.room back.kept back.alone)).items_are
-      ∙ ap (λ (listing : Listing). listing.items) c.self.view_is)
+    ((seen_grown _ _ _ _ c.args.room c.self.inside.len c.self.invariant (omega arith)
+    (grown_from _ _ _ _ c.args.room c.in_ok-reserve.ensures.items len own.room own.kept own.alone)
+    (grown_from _ _ _ _ c.args.room c.in_ok-reserve-2.ensures.items len_prev back.room back.kept back.alone)).items_are
+    ∙ ap (λ (listing : Listing). listing.items) c.self.view_is)

@@ -1,7 +1,7 @@
-use Rattle.std.proofs.Common.{◌≡◌, ℕ, ◌+◌, false, None, sym, ap, ◌∙◌, arith}
+use Rattle.std.proofs.Common.{◌≡◌, ◌+◌, false, sym, ap, ◌∙◌, arith}
 use Rattle.std.proofs.lemmas.Grind.{common_steps}
 use Rattle.linked_pending.specs.Listing.{Listing, has, behind_or, next_in}
-use Rattle.linked_pending.specs.Order.{nodes_at, node_at}
+use Rattle.linked_pending.specs.Order.{node_at}
 use Rattle.linked_pending.proofs.OrderLemmas.{has-nodes_at, node_at-behind, next_in-absent, absent_above}
 use Rattle.linked_pending.proofs.order.Order.after.Goals as goal
 use Rattle.linked_pending.proofs.order.Order.after.Goals.{then-node-room-via-then-node-room, then-node-room-via-else-node-room+then-not-contains}

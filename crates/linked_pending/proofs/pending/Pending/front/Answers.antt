@@ -1,11 +1,10 @@
-use Rattle.std.proofs.Common.{◌≡◌, ◌≢◌, ℕ, ◌/◌, ◌<◌, length, Some, None, List, [], refl, sym, ap, ◌∙◌, subst, arith}
+use Rattle.std.proofs.Common.{◌≡◌, ◌≢◌, ℕ, ◌/◌, Some, refl, sym, ap, ◌∙◌, subst, arith}
 use Rattle.std.proofs.lemmas.Grind.{common_steps}
 use Rattle.std.specs.Prelude.{Option}
 use Rattle.linked_pending.specs.declared.pending.Place.{Place}
 use Rattle.linked_pending.specs.Listing.{first_or}
 use Rattle.linked_pending.specs.Links.{link}
-use Rattle.linked_pending.specs.Group.{Group, front_of}
-use Rattle.linked_pending.specs.Layout.{parse}
+use Rattle.linked_pending.specs.Group.{front_of}
 use Rattle.linked_pending.specs.Pending.{Queues, IsOrderly}
 use Rattle.linked_pending.proofs.FrontLemmas.{empty_without_room, front_shown, orderly}
 use Rattle.linked_pending.proofs.pending.Pending.front.Goals as goal

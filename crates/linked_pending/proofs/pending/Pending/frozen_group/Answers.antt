@@ -1,4 +1,4 @@
-use Rattle.std.proofs.Common.{◌≡◌, ℕ, ◌+◌, ◌*◌, ◌<◌, ◌≤◌, length, Bool, cond, Some, None, true, false, sym, ap, ◌∙◌, arith}
+use Rattle.std.proofs.Common.{◌≡◌, ◌+◌, ◌*◌, ◌<◌, length, Bool, cond, Some, None, true, false, sym, ap, ◌∙◌, arith}
 use Rattle.std.proofs.lemmas.Grind.{common_steps}
 use Rattle.linked_pending.specs.Listing.{has}
 use Rattle.linked_pending.specs.Links.{link}
@@ -17,7 +17,7 @@ returns-then-contains c =
     let there : has_node c.args.node (parse c.self.inside.frozen.items) ≡ true = sym (node_listed _ _ c.self.invariant.second c.args.node room c.args.node) ∙ listed in
     let read : c.index.result.now ≡ link c.self.inside.groups.items c.args.node = grind (arith, common_steps) in
     let group_is : group_of c.args.node (parse c.self.inside.frozen.items) ≡ Some (link c.self.inside.groups.items c.args.node) =
-      group_of_member _ c.args.node _ c.self.invariant.second.members ∙ ap (λ (test : Bool). cond test (Some (link c.self.inside.groups.items c.args.node)) None) there in
+    group_of_member _ c.args.node _ c.self.invariant.second.members ∙ ap (λ (test : Bool). cond test (Some (link c.self.inside.groups.items c.args.node)) None) there in
     ap Some read ∙ sym group_is ∙ ap (λ (queues : Queues). group_of c.args.node queues.frozen) c.self.view_is
 
 pub returns-else-node-len : goal.returns-else-node-len

@@ -1,7 +1,7 @@
-use Rattle.std.proofs.Common.{◌≡◌, ℕ, ◌≤◌, false, List, length, subst, sym, ap, ap₂, ◌∙◌, arith}
+use Rattle.std.proofs.Common.{◌≡◌, ℕ, ◌≤◌, List, length, subst, sym, ap, ap₂, ◌∙◌, arith}
 use Rattle.std.proofs.lemmas.Grind.{common_steps}
 use Rattle.linked_pending.specs.Group.{group_of, without_node}
-use Rattle.linked_pending.specs.Layout.{has_node, parse}
+use Rattle.linked_pending.specs.Layout.{parse}
 use Rattle.linked_pending.specs.Pending.{Queues, IsQueue}
 use Rattle.linked_pending.proofs.GroupLemmas.{absent_from_no_group, no_group_from_absent, without_node_absent, group_of_left}
 use Rattle.linked_pending.proofs.QueueLemmas.{queues, queues_left, absent_above}
@@ -31,7 +31,7 @@ returns-else-node-len-clause-left c =
     let waiting = sym (without_node_absent c.args.node _ c.self.invariant.first.full (absent_above _ _ c.args.node c.self.invariant.first above)) in
     let frozen = sym (without_node_absent c.args.node _ c.self.invariant.second.full (absent_above _ _ c.args.node c.self.invariant.second above)) in
     let same : queues (length c.self.inside.groups.items) (parse c.self.inside.waiting.items) (parse c.self.inside.frozen.items) ≡ queues (length c.self.inside.groups.items) (without_node c.args.node (parse c.self.inside.waiting.items)) (without_node c.args.node (parse c.self.inside.frozen.items)) =
-      ap₂ (queues (length c.self.inside.groups.items)) waiting frozen in
+    ap₂ (queues (length c.self.inside.groups.items)) waiting frozen in
     sym c.self.view_is ∙ same ∙ ap (λ (shown : Queues). queues shown.room (without_node c.args.node shown.waiting) (without_node c.args.node shown.frozen)) c.self.view_is
 
 pub returns-then-node-len-clause-gone_waiting : goal.returns-then-node-len-clause-gone_waiting

@@ -1,4 +1,4 @@
-use Rattle.std.proofs.Common.{◌≡◌, ℕ, ◌<◌, ◌+◌, ◌*◌, ◌≤◌, ◌^◌, List, length, max, ap, ◌∙◌, arith, rules}
+use Rattle.std.proofs.Common.{◌≡◌, ◌<◌, ◌+◌, ◌*◌, ◌≤◌, ◌^◌, length, ap, arith, rules}
 use Rattle.std.proofs.lemmas.Grind.{common_steps}
 use Rattle.linked_pending.specs.Listing.{Listing}
 use Rattle.linked_pending.proofs.GrowthLemmas.{grown_from}
@@ -17,4 +17,4 @@ invariant_of-self-then-len-room c =
     let space_waiting : 2 * c.max-room.result + 1 ≤ c.reserve.new.self.room = omega (arith, room_waiting) in
     let space_frozen : 2 * c.max-room.result + 1 ≤ c.reserve-then-len-room.new.self.room = omega (arith, room_frozen) in
     queues_grown _ _ _ _ _ _ c.max-room.result c.self.invariant (ap (λ (listing : Listing). listing.items) waiting) (ap (λ (listing : Listing). listing.items) frozen) grows fits space_waiting space_frozen
-      (grown_from _ _ _ _ c.max-room.result c.in_ok-reserve-3.ensures.items len c.grow.ensures.room c.grow.ensures.kept c.grow.ensures.alone)
+    (grown_from _ _ _ _ c.max-room.result c.in_ok-reserve-3.ensures.items len c.grow.ensures.room c.grow.ensures.kept c.grow.ensures.alone)
