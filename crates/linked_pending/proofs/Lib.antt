@@ -1,0 +1,12 @@
+pub mod ListingLemmas
+pub mod LeadsLemmas
+pub mod CrossedLemmas
+pub mod ChainLemmas
+pub mod GrowthLemmas
+pub mod OrderLemmas
+pub mod ApartLemmas
+pub mod GroupLemmas
+pub mod LayoutLemmas
+pub mod LeavingLemmas
+pub mod QueueLemmas
+pub mod FrontLemmas

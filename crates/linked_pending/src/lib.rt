@@ -1,0 +1,17 @@
+//! Two intrusive lists over numbered nodes. An `Order` is one list of nodes; a `Pending` is two lists of groups of
+//! nodes, those that wait and those that are frozen.
+//!
+//! Each call takes constant time, and after `reserve` none takes memory (`reserve` itself takes time by what it adds).
+//! The crate stands on std alone. It keeps numbers: what a node or a group means is its caller's.
+#![tactic(auto)]
+
+mod chain;
+mod fault;
+mod order;
+mod pending;
+#[cfg(test)]
+mod tests;
+
+pub use fault::NoMemory;
+pub use order::Order;
+pub use pending::{Pending, Place};
