@@ -1,4 +1,5 @@
 pub mod CommandLemmas
+pub mod SendingLemmas
 pub mod SlotLemmas
 pub mod TookLemmas
 pub mod WordLemmas

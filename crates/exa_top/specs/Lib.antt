@@ -2,5 +2,6 @@ pub mod Commands
 pub mod Answers
 pub mod Encoding
 pub mod Words
+pub mod Top
 pub mod Slots
 pub mod Messages

@@ -8,10 +8,12 @@
 
 mod answering;
 mod command;
+mod encoding;
+mod messages;
 mod status;
 mod table;
 mod words;
 
 pub use status::Status;
+pub use encoding::encode_all;
 pub use words::{TextCommand, text_command};
-pub use answering::answer_all;
