@@ -1,4 +1,6 @@
 pub mod CommandLemmas
+pub mod EncodingLemmas
+pub mod LeavesLemmas
 pub mod SendingLemmas
 pub mod SlotLemmas
 pub mod TookLemmas
