@@ -4,4 +4,5 @@ pub mod LeavesLemmas
 pub mod SendingLemmas
 pub mod SlotLemmas
 pub mod TookLemmas
+pub mod TopLemmas
 pub mod WordLemmas
