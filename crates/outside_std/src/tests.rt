@@ -75,9 +75,7 @@ fn an_error_of_a_reader_counts_and_an_interrupted_read_is_made_again(
 }
 
 #[test]
-fn an_error_of_a_writer_counts_and_so_does_a_write_of_nothing(
-    rt: HostRuntime,
-) -> Result<(), Fail> {
+fn an_error_of_a_writer_counts_and_so_does_a_write_of_nothing(rt: HostRuntime) -> Result<(), Fail> {
     let answers = [
         Ok(9),
         Err(ErrorKind::Interrupted),
@@ -128,7 +126,10 @@ fn a_folder_opens_and_fails_to_be_read(rt: HostRuntime) -> Result<(), Fail> {
     let Opened::Open(mut source) = files.open("/") else {
         return Err(Fail::from("the folder wasn't opened"));
     };
-    assert_eq!(rt; read_all(rt.alloc(), &mut source, 100).err(), Some(Unread::Fault));
+    assert_eq!(rt;
+        read_all(rt.alloc(), &mut source, 100).err(),
+        Some(Unread::Fault)
+    );
     files.give_back(source);
     assert_eq!(rt; files.faults(), 1);
     Ok(())
