@@ -1,13 +1,12 @@
 -- One more join, and all passes back.
-use Rattle.std.proofs.Common.{◌≡◌, ◌⊎◌, ℕ, zero, suc, ◌+◌, ◌<◌, List, [], ◌∷◌, ◌++◌, map, length, refl, sym, ap, ◌∙◌, subst, inl, inr, ⊎_elim, arith}
+use Rattle.std.proofs.Common.{◌≡◌, ◌⊎◌, ℕ, ◌<◌, List, [], ◌∷◌, ◌++◌, map, length, refl, sym, ap, ◌∙◌, subst, inl, inr, ⊎_elim}
 use Rattle.std.specs.Prelude.{Contains, slice_index_or}
 use Rattle.std.proofs.lemmas.List.Elements.{Contains-append_left, Contains-append_right, Contains-append_cases}
-use mathlib.Core.List.{IsPrefix}
 use Rattle.book_gate.specs.Histories.{entries_by}
 use Rattle.book_gate.specs.Known.{Known}
 use Rattle.book_gate.specs.Views.{longer}
 use Rattle.book_gate.specs.Calls.{Continues, IsJoin}
-use Rattle.book_gate.proofs.ListLemmas.{prefix_self, prefix_trans, contains_none, contains_one, contains_here, contains_there, contains_last, contains_cases, contains_at}
+use Rattle.book_gate.proofs.ListLemmas.{prefix_self, prefix_trans, contains_none, contains_one, contains_here, contains_there, contains_cases, contains_at}
 use Rattle.book_gate_many.specs.Many.{split_with, joined_with, IsAllJoined}
 
 module _ {A E : Type 0} where

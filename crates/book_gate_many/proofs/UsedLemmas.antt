@@ -1,12 +1,12 @@
 -- Passes that made calls go from one list to another.
-use Rattle.std.proofs.Common.{◌≡◌, ◌⊎◌, ℕ, zero, suc, ◌+◌, List, [], ◌∷◌, ◌++◌, map, refl, sym, ap, ◌∙◌, subst, inl, inr, ⊎_elim}
-use Rattle.std.specs.Prelude.{All, Contains}
+use Rattle.std.proofs.Common.{◌≡◌, ℕ, zero, suc, ◌+◌, List, [], ◌∷◌, ◌++◌, map, refl, sym, ap, ◌∙◌, subst, inl, inr, ⊎_elim}
+use Rattle.std.specs.Prelude.{Contains}
 use Rattle.std.proofs.lemmas.List.{map-append}
-use Rattle.std.proofs.lemmas.List.Elements.{All-nil, All-push, All-append, All-contains, Contains-append_left, Contains-append_right, Contains-append_cases}
+use Rattle.std.proofs.lemmas.List.Elements.{All-nil, All-push, All-contains, Contains-append_left, Contains-append_right, Contains-append_cases}
 use Rattle.book_gate.specs.Known.{TableId, Known}
 use Rattle.book_gate.specs.Known.{first_known}
-use Rattle.book_gate.specs.Calls.{IsLater, IsSplit, Continues}
-use Rattle.book_gate.proofs.ListLemmas.{contains_none, contains_one, contains_here, contains_last, contains_cases, contains_at}
+use Rattle.book_gate.specs.Calls.{IsLater, IsSplit}
+use Rattle.book_gate.proofs.ListLemmas.{contains_none, contains_one, contains_last, contains_cases, contains_at}
 use Rattle.book_gate_many.specs.Many.{child_names, child_of, children_of, IsMany}
 use Rattle.book_gate_many.specs.Used.{IsOf, ArePair, AreLeaves, AreNamesOf, AreNamesOfBoth, AreAll}
 

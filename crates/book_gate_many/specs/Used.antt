@@ -1,7 +1,6 @@
 -- Passes of one gate that make calls, beside the first pass that gave them their names.
 use Rattle.std.specs.Prelude.{◌≡◌, ◌⊎◌, ℕ, List, [], ◌∷◌, All, Contains, map}
 use Rattle.book_gate.specs.Known.{TableId, Known}
-use Rattle.book_gate.specs.Calls.{IsLater}
 
 module _ {A E : Type 0} where
   -- A pass of this gate with this name, which gave out these names

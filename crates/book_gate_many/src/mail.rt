@@ -66,7 +66,9 @@ impl<N: GateName> MailBox<N> {
 
     // Waits until the box is empty.
     fn put(&self, rt: &impl Wait, letter: Letter<N>) {
-        let mut slot = self.changed.wait_while(rt, self.slot.lock(rt), |slot| slot.is_some());
+        let mut slot = self
+            .changed
+            .wait_while(rt, self.slot.lock(rt), |slot| slot.is_some());
         *slot = Some(letter);
         self.changed.notify_one();
     }

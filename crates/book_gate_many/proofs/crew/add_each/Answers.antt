@@ -1,4 +1,4 @@
-use Rattle.std.proofs.Common.{◌≡◌, ◌++◌, ◌∷◌, [], ◌∙◌, refl, sym, ap, subst, rules, arith, length-append}
+use Rattle.std.proofs.Common.{◌≡◌, ◌++◌, ◌∷◌, [], refl, sym, ap, subst, rules, arith, length-append}
 use Rattle.book_gate_many.specs.Used.{AreLeaves, AreNamesOfBoth}
 use Rattle.book_gate_many.proofs.UsedLemmas.{no_leaves, leaves_but_last, one_more_leaf, all_in_rest, all_in_used, one_goes_over}
 use Rattle.book_gate_many.proofs.crew.add_each.Goals as goal

@@ -1,4 +1,3 @@
-use Rattle.std.proofs.Common.{ap, ◌∙◌}
 use Rattle.book_gate_many.proofs.ManyLemmas.{all_back}
 use Rattle.book_gate_many.proofs.many.close_many.Goals as goal
 
