@@ -24,9 +24,9 @@ impl Model for Order {
 
     ghost Value = { Listing };
 
-    ghost view = { λ o. record { room = o.chain.room - 1; items = nodes_at o.chain.items } };
+    ghost view = { λ order. record { room = order.chain.room - 1; items = nodes_at order.chain.items } };
 
-    ghost invariant = { λ o. IsOrder o.chain };
+    ghost invariant = { λ order. IsOrder order.chain };
 }
 
 impl Order {

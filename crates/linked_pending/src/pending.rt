@@ -1,6 +1,6 @@
 //! Groups of nodes that wait, and groups of nodes that are frozen.
 
-ghost use Rattle.std.specs.Prelude.{◌≡◌, ◌↔◌, ℕ, ◌<◌, ◌≤◌, ◌+◌, ◌*◌, ◌^◌, [], false, None, IsNone, IsErr, IsOk, OnErr, OnOk, length, max};
+ghost use Rattle.std.specs.Prelude.{◌≡◌, ◌↔◌, ℕ, ◌<◌, ◌≤◌, ◌+◌, ◌*◌, ◌^◌, [], false, None, Some, IfSome, IsNone, IsErr, IsOk, OnErr, OnOk, length, max};
 ghost use Rattle.linked_pending.specs.Links.{link};
 ghost use Rattle.linked_pending.specs.Group.{with_node, without_node, group_of, front_of};
 ghost use Rattle.linked_pending.specs.Layout.{has_node, opened, parse};
@@ -41,9 +41,9 @@ impl Model for Pending {
 
     ghost Value = { Queues };
 
-    ghost view = { λ p. record { room = length p.groups.items; waiting = parse p.waiting.items; frozen = parse p.frozen.items } };
+    ghost view = { λ lists. record { room = length lists.groups.items; waiting = parse lists.waiting.items; frozen = parse lists.frozen.items } };
 
-    ghost invariant = { λ p. AreQueues p.groups.items p.waiting p.frozen };
+    ghost invariant = { λ lists. AreQueues lists.groups.items lists.waiting lists.frozen };
 }
 
 impl Pending {
@@ -62,6 +62,7 @@ impl Pending {
     pub fn front(&self) -> Option<Place>
         ensures first { result ≡ front_of self.now.frozen }
         ensures none { IsNone result ↔ (self.now.frozen ≡ []) }
+        ensures member { IfSome result (λ place. group_of place.node self.now.frozen ≡ Some place.group) }
 
         // What holds of each pair of lists.
         ensures orderly { IsOrderly self.now }
