@@ -10,8 +10,12 @@ use crate::fault::NoMemory;
 use std::alloc::Global;
 use std::marker::Model;
 
-/// A list of nodes in the order in which they were pushed. A node is a number, and stands at most once. The list has a
-/// room: the nodes that it can hold are those below it.
+/// A list of nodes. A node is a number, and stands at most once. The list has a room: the nodes that it can hold are
+/// those below it.
+///
+/// # Order
+///
+/// The nodes stand in the order in which they were pushed. One that was removed and is pushed again is the last.
 #[derive(Drop)]
 pub struct Order {
     chain: Chain,

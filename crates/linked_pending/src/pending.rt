@@ -12,7 +12,8 @@ use std::alloc::Global;
 use std::marker::Model;
 use std::mem;
 
-/// The most nodes and groups that a table of their places can count.
+/// The greatest room: a node and a group have a place each, and with the chain's own there are as many places as a usize
+/// can count.
 const MOST: usize = usize::MAX / 2;
 
 /// Where a node stands: in which group, and which node it is.
@@ -25,8 +26,13 @@ pub struct Place {
 }
 
 /// Two lists of groups, one of groups that wait and one of groups that are frozen. A group is a number with the list of
-/// its nodes, in the order in which they joined; an empty group is in neither list. A node is a number, and stands at
-/// most once in the two lists. The lists have a room: their nodes and groups are numbers below it.
+/// its nodes; an empty group is in neither list, but one number may name a group in each. A node is a number, and stands
+/// at most once in the two lists. The lists have a room: their nodes and groups are numbers below it.
+///
+/// # Order
+///
+/// The groups stand in the order in which they began to wait, and the nodes of a group in the order in which they joined.
+/// `freeze` keeps both orders.
 #[derive(Drop)]
 pub struct Pending {
     waiting: Chain,
