@@ -23,10 +23,6 @@ use Rattle.linked_pending.proofs.GroupLemmas.{has-nodes_of}
 abbrev pub shown : List ℕ → ℕ → Option Place
 shown table place = Some (record { group = link table (place / 2); node = place / 2 })
 
-first_linked : (number : ℕ) (nodes others : List ℕ) → is_empty nodes ≡ false → first_or 0 (node_places nodes (end_place number ∷ others)) ≢ 0
-first_linked number [] others full linked = false≢true (sym full)
-first_linked number (first ∷ rest) others full linked = absurd (omega arith)
-
 first_shown : (table : List ℕ) (number : ℕ) (nodes others : List ℕ) (place : ℕ) → is_empty nodes ≡ false → ((node : ℕ) → has node nodes ≡ true → link table node ≡ number) → first_or 0 (node_places nodes (end_place number ∷ others)) ≡ place → (shown table place ≡ option_map (λ node. record { group = number; node = node }) (slice_get nodes 0)) × (has (place / 2) nodes ≡ true)
 first_shown table number [] others place full own place_is = absurd (false≢true (sym full))
 first_shown table number (first ∷ rest) others place full own place_is =
@@ -40,10 +36,6 @@ front_flat table (first ∷ rest) place full members place_is linked =
     let front = first_shown table first.number first.nodes (flat rest) place full.0 members.0 place_is in
     (front.0, grind (arith, common_steps, front.1))
 
-empty_flat : (groups : List Group) → AreFull groups → first_or 0 (flat groups) ≡ 0 → groups ≡ []
-empty_flat [] full at_root = refl
-empty_flat (first ∷ rest) full at_root = absurd (first_linked first.number first.nodes (flat rest) full.0 at_root)
-
 no_groups : (groups : List Group) → ((number : ℕ) → has_group number groups ≡ true → ⊥) → groups ≡ []
 no_groups [] none = refl
 no_groups (first ∷ rest) none = absurd (none first.number (grind (arith, common_steps)))
@@ -51,9 +43,6 @@ no_groups (first ∷ rest) none = absurd (none first.number (grind (arith, commo
 -- a chain without room has no groups, nor has one that begins with its own place
 pub empty_without_room : (table : List ℕ) (chain : Listing) → IsQueue table chain → chain.room ≡ 0 → parse chain.items ≡ []
 empty_without_room table chain queue no_room = no_groups (parse chain.items) (λ number there. let bound = queue.room number (queue.groups_in number there) in absurd (omega arith))
-
-pub empty_at_root : (table : List ℕ) (chain : Listing) → IsQueue table chain → first_or 0 chain.items ≡ 0 → parse chain.items ≡ []
-empty_at_root table chain queue at_root = empty_flat _ queue.full (ap (first_or 0) (sym queue.is_flat) ∙ at_root)
 
 pub front_shown : (table : List ℕ) (chain : Listing) (place : ℕ) → IsQueue table chain → place ≡ first_or 0 chain.items → place ≢ 0 → (shown table place ≡ front_of (parse chain.items)) × (place / 2 < length table)
 front_shown table chain place queue place_is linked =
