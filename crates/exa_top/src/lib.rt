@@ -17,3 +17,6 @@ mod words;
 
 pub use status::Status;
 pub use top::exabgp_text;
+
+#[cfg(test)]
+mod tests;

@@ -7,7 +7,8 @@ use crate::key::Key;
 
 /// What may be written in one direction of a session: the families that both sides have (RFC 4760, section 8),
 /// those whose prefixes have path identifiers (RFC 7911, section 4), and whether messages may have up to 65,535
-/// bytes (RFC 8654). A path flag counts only where its family's flag is set.
+/// bytes (RFC 8654). Whoever sets a path flag sets its family's flag too: prefixes are written and read by the path
+/// flag alone.
 #[derive(Clone, Copy, Debug, PartialEq, Eq)]
 pub struct Caps {
     pub ipv4: bool,

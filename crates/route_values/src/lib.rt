@@ -29,3 +29,6 @@ pub use pick::{Pick, Selector, is_picked};
 pub use prefix::Prefix;
 pub use sending::wire;
 pub use settings::{Settings, Side};
+
+#[cfg(test)]
+mod tests;

@@ -1,0 +1,177 @@
+use super::*;
+use outside::{MemorySink, MemorySource, SureFiles};
+use std::alloc::Global;
+use std::test::Fail;
+
+const ROUTE: &str = "announce route 10.0.0.0/24 next-hop 192.0.2.1\n";
+
+/// The End-of-RIB marker of IPv4 as the last message.
+const END: &str = "update 0 last FFFFFFFFFFFFFFFFFFFFFFFFFFFFFFFF00170200000000\n";
+
+/// How a command ended, what it wrote, and how often its input and its output failed.
+#[derive(Drop)]
+struct Outcome {
+    status: Status,
+    output: String,
+    reads_failed: u64,
+    writes_failed: u64,
+}
+
+/// Runs a command whose listed reads and writes fail, and whose sink takes 20 bytes a call.
+fn run(
+    alloc: Global,
+    words: &[&str],
+    input: &str,
+    failing_reads: &[u64],
+    failing_writes: &[u64],
+) -> Result<Outcome, Fail> {
+    let mut files = SureFiles::new(&[]);
+    let mut source = MemorySource::new(input.as_bytes(), failing_reads);
+    let mut sink = MemorySink::in_steps(alloc, 10_000, 20, failing_writes)?;
+    let status = exabgp_text(alloc, words, &mut files, &mut source, &mut sink);
+    let bytes = sink.bytes().ok_or("the sink has room")?;
+    Ok(Outcome {
+        status,
+        output: String::from_utf8(Vec::from_slice(alloc, bytes)?)?,
+        reads_failed: source.faults(),
+        writes_failed: sink.faults(),
+    })
+}
+
+#[test]
+fn lines_are_answered_and_the_messages_leave_what_they_say(
+    rt: HostRuntime,
+) -> Result<(), Fail> {
+    let external = ["encode", "65001", "65002", "192.0.2.9"];
+    let internal = ["encode", "65001", "65001", "192.0.2.9"];
+    let table: [(&str, [&str; 4], &str, &str); 6] = [
+        ("no line", external, "", ""),
+        (
+            "a route to a neighbour of another AS",
+            external,
+            ROUTE,
+            "done\nupdate 0 more FFFFFFFFFFFFFFFFFFFFFFFFFFFFFFFF\
+             002F02\
+             00000014\
+             40010100\
+             40020602010000FDE9\
+             400304C0000201\
+             180A0000\n",
+        ),
+        (
+            "a route to a neighbour of the own AS",
+            internal,
+            ROUTE,
+            "done\nupdate 0 more FFFFFFFFFFFFFFFFFFFFFFFFFFFFFFFF\
+             003002\
+             00000015\
+             40010100\
+             400200\
+             400304C0000201\
+             40050400000064\
+             180A0000\n",
+        ),
+        (
+            "a route that goes",
+            external,
+            "announce route 10.0.0.0/24 next-hop 192.0.2.1\nwithdraw route 10.0.0.0/24\n",
+            "done\ndone\n",
+        ),
+        (
+            "the later of two next hops",
+            external,
+            "announce route 10.0.0.0/24 next-hop 192.0.2.7\r\n\n\
+             announce\troute 10.0.0.0/24  next-hop 192.0.2.1\n",
+            "done\ndone\nupdate 0 more FFFFFFFFFFFFFFFFFFFFFFFFFFFFFFFF\
+             002F02\
+             00000014\
+             40010100\
+             40020602010000FDE9\
+             400304C0000201\
+             180A0000\n",
+        ),
+        (
+            "lines that don't read, and an unfinished one",
+            external,
+            "announce route 10.0.0.1/24 next-hop 192.0.2.1\n\
+             announce route 10.0.0.0/33 next-hop 192.0.2.1\n\
+             announce route 10.0.0.0/24\n\
+             withdraw route 10.0.0.0/24 now\n\
+             announce route 10.0.0.0/24 next-hop 192.0.2.1",
+            "error\nerror\nerror\nerror\n",
+        ),
+    ];
+    for (case, words, input, wanted) in table {
+        let done = run(rt.alloc(), &words, input, &[], &[])?;
+        let mut whole = String::new(rt.alloc());
+        whole.push_str(wanted)?;
+        whole.push_str(END)?;
+        assert_eq!(rt; done.status, Status::Ok, "{case}");
+        assert_eq!(rt; done.output.as_str(), whole.as_str(), "{case}");
+    }
+    Ok(())
+}
+
+#[test]
+fn help_and_version_write_their_texts(rt: HostRuntime) -> Result<(), Fail> {
+    let version = run(rt.alloc(), &["--version"], ROUTE, &[0], &[])?;
+    assert_eq!(rt; version.status, Status::Ok);
+    assert_eq!(rt; version.output.as_str(), "exabgpd 0.1.0\n");
+    let help = run(rt.alloc(), &["--help"], ROUTE, &[0], &[])?;
+    assert_eq!(rt; help.status, Status::Ok);
+    assert!(rt; help.output.as_str().starts_with("usage: exabgpd encode LOCAL_AS PEER_AS LOCAL_IP\n"));
+    Ok(())
+}
+
+#[test]
+fn words_that_spell_no_command_are_usage_and_touch_nothing(
+    rt: HostRuntime,
+) -> Result<(), Fail> {
+    let table: [&[&str]; 7] = [
+        &[],
+        &["frob"],
+        &["encode"],
+        &["encode", "one.conf"],
+        &["encode", "0", "65002", "192.0.2.9"],
+        &["encode", "65001", "65002", "192.0.2.256"],
+        &["--version", "--help"],
+    ];
+    for words in table {
+        let refused = run(rt.alloc(), words, ROUTE, &[0], &[0])?;
+        assert_eq!(rt; refused.status, Status::Usage);
+        assert_eq!(rt; refused.output.as_str(), "");
+        assert_eq!(rt; refused.reads_failed, 0);
+        assert_eq!(rt; refused.writes_failed, 0);
+    }
+    Ok(())
+}
+
+#[test]
+fn a_fault_of_the_outside_ends_the_command(rt: HostRuntime) -> Result<(), Fail> {
+    let words = ["encode", "65001", "65002", "192.0.2.9"];
+    let unread = run(rt.alloc(), &words, ROUTE, &[1], &[])?;
+    assert_eq!(rt; unread.status, Status::ReadFault);
+    assert_eq!(rt; unread.output.as_str(), "");
+    assert_eq!(rt; unread.reads_failed, 1);
+    let unwritten = run(rt.alloc(), &words, ROUTE, &[], &[1])?;
+    assert_eq!(rt; unwritten.status, Status::WriteFault);
+    assert_eq!(rt; unwritten.output.as_str(), "done\nupdate 0 more F");
+    assert_eq!(rt; unwritten.writes_failed, 1);
+    Ok(())
+}
+
+#[test]
+fn a_status_has_a_number_and_a_text(rt: HostRuntime) {
+    let table = [
+        (Status::Ok, 0, None),
+        (Status::Usage, 2, Some("usage")),
+        (Status::ReadFault, 6, Some("read fault")),
+        (Status::WriteFault, 7, Some("write fault")),
+        (Status::NoMemory, 9, Some("no memory")),
+        (Status::InputLong, 10, Some("input too long")),
+    ];
+    for (status, number, text) in table {
+        assert_eq!(rt; status.number(), number);
+        assert_eq!(rt; status.text(), text);
+    }
+}

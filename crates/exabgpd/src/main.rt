@@ -1,0 +1,55 @@
+//! The program: it makes the devices, runs the text command that its arguments spell, and ends with the command's
+//! status. What it writes on standard error is one line, where the command didn't end well.
+#![tactic(auto)]
+
+use exa_top::{Status, exabgp_text};
+use outside_std::{StdFiles, StdInput, StdOutput};
+use std::io::ErrorKind;
+use std::process::ExitCode;
+use std::{env, io};
+
+fn main(rt: HostRuntime) -> ExitCode {
+    let status = match words_of(&rt) {
+        Ok(words) => run(&rt, &words),
+        Err(status) => status,
+    };
+    if let Some(text) = status.text() {
+        let _ = eprintln!(rt; "exabgp: {text}");
+    }
+    ExitCode::from(status.number())
+}
+
+// The arguments behind the program's name. One that isn't UTF-8 is part of no command.
+fn words_of(rt: &HostRuntime) -> Result<Vec<String>, Status> {
+    let args = match env::args(rt) {
+        Ok(args) => args,
+        Err(error) => return Err(status_of(&error)),
+    };
+    let mut words = Vec::new(rt.alloc());
+    for word in args.skip(1) {
+        if words.push(word).is_err() {
+            return Err(Status::NoMemory);
+        }
+    }
+    Ok(words)
+}
+
+fn status_of(error: &io::Error) -> Status {
+    match error.kind() {
+        ErrorKind::InvalidData => Status::Usage,
+        _ => Status::NoMemory,
+    }
+}
+
+fn run(rt: &HostRuntime, words: &[String]) -> Status {
+    let mut texts = Vec::new(rt.alloc());
+    for word in words {
+        if texts.push(word.as_str()).is_err() {
+            return Status::NoMemory;
+        }
+    }
+    let mut files = StdFiles::new(rt);
+    let mut input = StdInput::new(rt.stdin());
+    let mut output = StdOutput::new(rt.stdout());
+    exabgp_text(rt.alloc(), &texts, &mut files, &mut input, &mut output)
+}
