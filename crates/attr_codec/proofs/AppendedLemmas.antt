@@ -1,5 +1,5 @@
 -- What several writes leave.
-use Rattle.std.proofs.Common.{ℕ, ◌≡◌, ◌==◌, Bool, false, List, [], ◌∷◌, ◌++◌, length, arith, length-append, append_assoc, append-nil, subst, ap, sym, ◌∙◌}
+use Rattle.std.proofs.Common.{ℕ, ◌≡◌, ◌==◌, false, List, [], ◌∷◌, ◌++◌, length, arith, length-append, append_assoc, append-nil, subst, ap, sym, ◌∙◌}
 use Rattle.update_grammar.specs.Attributes.{raw_head, raw_text}
 use Rattle.update_grammar.specs.Written.{flags_for, raw, raw_some}
 use Rattle.attr_codec.specs.declared.codes.Kind.{Kind}

@@ -1,5 +1,5 @@
 -- How long the texts of values and attributes are.
-use Rattle.std.proofs.Common.{ℕ, min, ◌≡◌, ◌+◌, ◌*◌, Bool, true, false, List, [], ◌∷◌, ◌++◌, length, arith, length-append, ap, sym, ◌∙◌, refl, suc, get_or, append-nil, Option, Some, None, is_some, nat_lt, ◌<◌, ◌==◌, if◌then◌else◌}
+use Rattle.std.proofs.Common.{ℕ, min, ◌≡◌, ◌+◌, ◌*◌, Bool, true, false, List, [], ◌∷◌, length, arith, length-append, ap, sym, ◌∙◌, refl, suc, get_or, append-nil, Option, Some, None, is_some, nat_lt, ◌<◌, ◌==◌, if◌then◌else◌}
 use Rattle.std.proofs.lemmas.Bool.Decides.{nat_tests}
 use Rattle.std.proofs.lemmas.List.Sums.{sum_by-cons}
 use Rattle.std.specs.List.{flat_map}

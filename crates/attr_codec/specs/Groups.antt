@@ -1,7 +1,6 @@
 -- The attributes of an announcement in groups, in rising order of their codes.
 use Rattle.std.specs.Prelude.{ℕ, List, [], ◌∷◌, ◌++◌}
 use Rattle.std.specs.List.{flat_map}
-use Rattle.route_values.specs.declared.addr.Addr.{Addr}
 use Rattle.route_values.specs.declared.addr.Family.{Family}
 use Rattle.route_values.specs.declared.attrs.WireAttrs.{WireAttrs}
 use Rattle.update_grammar.specs.Attributes.{Raw, raw_text, transitive, optional, optional_transitive}

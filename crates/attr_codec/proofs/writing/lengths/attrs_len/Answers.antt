@@ -1,5 +1,5 @@
 use Rattle.std.proofs.Common.{◌≡◌, ◌-◌, ◌+◌, ◌^◌, ◌∙◌, ap, sym, length, min}
-use Rattle.attr_codec.specs.Sizes.{attr_size, list_size, path_size, fixed_size}
+use Rattle.attr_codec.specs.Sizes.{list_size, fixed_size}
 use Rattle.attr_codec.proofs.GroupLemmas.{length-attributes_text}
 use Rattle.attr_codec.proofs.SizeLemmas.{capped_more, capped_first}
 use Rattle.attr_codec.proofs.writing.lengths.attrs_len.Goals as goal

@@ -1,4 +1,3 @@
-use Rattle.std.proofs.Common.{arith}
 use Rattle.attr_codec.proofs.AppendedLemmas.{appended_three}
 use Rattle.attr_codec.proofs.writing.lists.put_large.Goals as goal
 

@@ -1,4 +1,3 @@
-use Rattle.std.proofs.Common.{rules}
 use Rattle.attr_codec.proofs.AppendedLemmas.{appended_three}
 use Rattle.update_codec.proofs.writing.frame.put_frame.Goals as goal
 

@@ -1,4 +1,4 @@
-use Rattle.std.proofs.Common.{arith, rules}
+use Rattle.std.proofs.Common.{rules}
 use Rattle.update_codec.proofs.WrittenLemmas.{length-end}
 use Rattle.update_codec.proofs.writing.opening.put_end_of_rib.Goals as goal
 
