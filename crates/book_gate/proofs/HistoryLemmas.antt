@@ -13,7 +13,7 @@ use Rattle.book_gate.proofs.OptionLemmas.{bool_not}
 module _ {A E : Type 0} (law : A → List E → E → Type 0) (start : A) where
   pub legal_push : (history : List E) (entry : E) → Legal law start history → law start history entry → Legal law start (history ++ entry ∷ [])
   legal_push history entry all last before x front =
-      ⊎_elim (λ old. all before x old) (λ (new : (before ≡ history) × (x ≡ entry)). subst (λ (z : List E × E). law start z.0 z.1) (λ i. (sym new.0 i, sym new.1 i)) last) (prefix_push before history x entry front)
+      ⊎_elim (λ old. all before x old) (λ (new : (before ≡ history) × (x ≡ entry)). subst (λ (it : List E × E). law start it.0 it.1) (λ i. (sym new.0 i, sym new.1 i)) last) (prefix_push before history x entry front)
 
   pub legal_prefix : (front history : List E) → IsPrefix front history → Legal law start history → Legal law start front
   legal_prefix front history is all before x first = all before x (prefix_trans (before ++ x ∷ []) front history first is)

@@ -27,11 +27,11 @@ module _ {X : Type 0} where
   pub prefix_push : (before list : List X) (x last : X) → IsPrefix (before ++ x ∷ []) (list ++ last ∷ []) → IsPrefix (before ++ x ∷ []) list ⊎ ((before ≡ list) × (x ≡ last))
   prefix_push [] [] x last front = inr (refl, cc (front.1))
   prefix_push [] (y ∷ list) x last front = inl (list, cc (front.1))
-  prefix_push (z ∷ before) [] x last front =
+  prefix_push (it ∷ before) [] x last front =
       let none : (before ++ x ∷ []) ++ front.0 ≡ [] = cc (front.1) in
       absurd (omega (arith, ap length none, length-append (before ++ x ∷ []) front.0, length-append before (x ∷ [])))
-  prefix_push (z ∷ before) (y ∷ list) x last front =
-      let heads : z ≡ y = cc (front.1) in
+  prefix_push (it ∷ before) (y ∷ list) x last front =
+      let heads : it ≡ y = cc (front.1) in
       ⊎_elim (λ (old : IsPrefix (before ++ x ∷ []) list). inl (old.0, cc (heads, old.1))) (λ (new : (before ≡ list) × (x ≡ last)). inr (cc (heads, new.0), new.1)) (prefix_push before list x last (front.0, cc (front.1)))
 
   pub prefix_map : {Y : Type 0} (f : X → Y) (xs ys : List X) → IsPrefix xs ys → IsPrefix (map f xs) (map f ys)
@@ -48,7 +48,7 @@ module _ {X : Type 0} where
   prefix_shorter [] ys zs first second below = (ys, refl)
   prefix_shorter (x ∷ xs) [] zs first second below = absurd (omega arith)
   prefix_shorter (x ∷ xs) (y ∷ ys) [] first second below = absurd (cc (first.1))
-  prefix_shorter (x ∷ xs) (y ∷ ys) (z ∷ zs) first second below =
+  prefix_shorter (x ∷ xs) (y ∷ ys) (it ∷ zs) first second below =
       let heads : x ≡ y = cc (first.1, second.1) in
       let rest = prefix_shorter xs ys zs (first.0, cc (first.1)) (second.0, cc (second.1)) (omega arith) in
       (rest.0, cc (heads, rest.1))
@@ -90,19 +90,19 @@ module _ {X : Type 0} where
   pub all_contained : (xs ys : List X) → All (Contains ys) xs → (x : X) → Contains xs x → Contains ys x
   all_contained xs ys all x has = subst (Contains ys) has.2 (all has.0 x has.1)
 
-  pub contains_at : (xs : List X) (k : ℕ) (d : X) → k < length xs → Contains xs (slice_index_or xs k d)
-  contains_at [] k d below = absurd (omega arith)
-  contains_at (x ∷ xs) zero d below = contains_here x xs
-  contains_at (x ∷ xs) (suc k) d below = contains_there x xs (slice_index_or xs k d) (contains_at xs k d (omega arith))
+  pub contains_at : (xs : List X) (k : ℕ) (fallback : X) → k < length xs → Contains xs (slice_index_or xs k fallback)
+  contains_at [] k fallback below = absurd (omega arith)
+  contains_at (x ∷ xs) zero fallback below = contains_here x xs
+  contains_at (x ∷ xs) (suc k) fallback below = contains_there x xs (slice_index_or xs k fallback) (contains_at xs k fallback (omega arith))
 
   -- What all elements of the second have, those of the first have
   pub all_fewer : (P : X → Type 0) (xs ys : List X) → ((x : X) → Contains xs x → Contains ys x) → All P ys → All P xs
-  all_fewer P xs ys among all k d below = let has = among (slice_index_or xs k d) (contains_at xs k d below) in subst P has.2 (all has.0 (slice_index_or xs k d) has.1)
+  all_fewer P xs ys among all k fallback below = let has = among (slice_index_or xs k fallback) (contains_at xs k fallback below) in subst P has.2 (all has.0 (slice_index_or xs k fallback) has.1)
 
   pub sum_set : (f : X → ℕ) (xs : List X) (i : ℕ) (x y : X) → get_elem? xs i ≡ some x → sum_by f (set xs i y) + f x ≡ sum_by f xs + f y
   sum_set f [] i x y at = absurd (some-ne-none x (sym at))
-  sum_set f (z ∷ zs) zero x y at = omega (arith, ap f (some-injective z x at), sum_by-cons f z zs, sum_by-cons f y zs)
-  sum_set f (z ∷ zs) (suc i) x y at = omega (arith, sum_set f zs i x y at, sum_by-cons f z zs, sum_by-cons f z (set zs i y))
+  sum_set f (it ∷ zs) zero x y at = omega (arith, ap f (some-injective it x at), sum_by-cons f it zs, sum_by-cons f y zs)
+  sum_set f (it ∷ zs) (suc i) x y at = omega (arith, sum_set f zs i x y at, sum_by-cons f it zs, sum_by-cons f it (set zs i y))
 
   pub sum_below : (f g : X → ℕ) (xs : List X) → ((i : ℕ) (x : X) → get_elem? xs i ≡ some x → f x ≤ g x) → sum_by f xs ≤ sum_by g xs
   sum_below f g [] each = omega arith
@@ -125,7 +125,7 @@ module _ {X : Type 0} where
   -- What holds of the new element and of the others holds of all
   pub each_set : (P : ℕ → X → Type 0) (xs : List X) (me : ℕ) (new : X) → P me new → ((j : ℕ) (x : X) → j ≢ me → get_elem? xs j ≡ some x → P j x) → (j : ℕ) (x : X) → get_elem? (set xs me new) j ≡ some x → P j x
   each_set P xs me new mine others j x at =
-      ⊎_elim (λ (here : (j ≡ me) × (new ≡ x)). subst (λ (z : ℕ × X). P z.0 z.1) (λ i. (sym here.0 i, here.1 i)) mine) (λ (else : (j ≢ me) × (get_elem? xs j ≡ some x)). others j x else.0 else.1) (at_set xs me j new x at)
+      ⊎_elim (λ (here : (j ≡ me) × (new ≡ x)). subst (λ (it : ℕ × X). P it.0 it.1) (λ i. (sym here.0 i, here.1 i)) mine) (λ (else : (j ≢ me) × (get_elem? xs j ≡ some x)). others j x else.0 else.1) (at_set xs me j new x at)
 
   -- An element of a longer list is an old one or the last
   pub at_end : (xs : List X) (last x : X) (j : ℕ) → get_elem? (xs ++ last ∷ []) j ≡ some x → (get_elem? xs j ≡ some x) ⊎ ((j ≡ length xs) × (last ≡ x))
@@ -136,7 +136,7 @@ module _ {X : Type 0} where
 
   pub each_end : (P : ℕ → X → Type 0) (xs : List X) (last : X) → P (length xs) last → ((j : ℕ) (x : X) → get_elem? xs j ≡ some x → P j x) → (j : ℕ) (x : X) → get_elem? (xs ++ last ∷ []) j ≡ some x → P j x
   each_end P xs last mine others j x at =
-      ⊎_elim (λ old. others j x old) (λ (new : (j ≡ length xs) × (last ≡ x)). subst (λ (z : ℕ × X). P z.0 z.1) (λ i. (sym new.0 i, new.1 i)) mine) (at_end xs last x j at)
+      ⊎_elim (λ old. others j x old) (λ (new : (j ≡ length xs) × (last ≡ x)). subst (λ (it : ℕ × X). P it.0 it.1) (λ i. (sym new.0 i, new.1 i)) mine) (at_end xs last x j at)
 
   -- What holds of the new element with itself and with each other, and of the others, holds of all pairs
   pub pairs_set : (R : ℕ → ℕ → X → X → Type 0) (xs : List X) (me : ℕ) (new : X) → R me me new new → ((j : ℕ) (x : X) → j ≢ me → get_elem? xs j ≡ some x → R me j new x × R j me x new)
@@ -155,9 +155,9 @@ module _ {X : Type 0} where
 
 module _ {X : Type 0} where
   first_or : X → List (ℕ × X) → X
-  first_or d [] = d
-  first_or d (x ∷ xs) = x.1
+  first_or fallback [] = fallback
+  first_or fallback (x ∷ xs) = x.1
 
-  pub same_first : (all xs ys : List (ℕ × X)) (n : ℕ) (x y : X) → all ≡ (n, x) ∷ xs → all ≡ (n, y) ∷ ys → x ≡ y
+  pub same_first : (all xs ys : List (ℕ × X)) (slot : ℕ) (x y : X) → all ≡ (slot, x) ∷ xs → all ≡ (slot, y) ∷ ys → x ≡ y
   unfolding first_or
-  same_first all xs ys n x y first second = ap (first_or x) (sym first ∙ second)
+  same_first all xs ys slot x y first second = ap (first_or x) (sym first ∙ second)

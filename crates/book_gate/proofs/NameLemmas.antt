@@ -21,10 +21,10 @@ module _ (given : List ℕ → ℕ) (name : List ℕ) where
   still_given other out parent k front = let below = out parent k front in let more : given parent ≤ gives_one given name parent = omega arith in omega arith
 
   gives_here : gives_one given name name ≡ given name + 1
-  gives_here = ap (λ b. given name + cond b 1 0) (is_name-self name)
+  gives_here = ap (λ same. given name + cond same 1 0) (is_name-self name)
 
   gives_else : (parent : List ℕ) → parent ≢ name → gives_one given name parent ≡ given parent
-  gives_else parent apart = ap (λ b. given parent + cond b 1 0) (is_name-apart parent name apart) ∙ omega arith
+  gives_else parent apart = ap (λ same. given parent + cond same 1 0) (is_name-apart parent name apart) ∙ omega arith
 
 -- What a pass says of names after it gave one out, and what the pass with that name says
 abbrev pub parent_line : Lineage → Lineage
@@ -96,7 +96,7 @@ module _ (given : List ℕ → ℕ) (lines : List Lineage) (me : ℕ) (line : Li
   split_parent : IsTrueLine given_now (parent_line line)
   split_parent = record {
     out = still_given given line.name line.name fits.out;
-    next = gives_here given line.name ∙ ap (λ (n : ℕ). n + 1) fits.next;
+    next = gives_here given line.name ∙ ap (λ (bound : ℕ). bound + 1) fits.next;
     split = λ parent k from below. by_name parent k from below (is_name parent line.name) refl;
     joined = λ name has. still_given given line.name name (fits.joined name has);
     only = λ name has. ⊎_elim (λ old. let by = fits.only name old in (by.0, by.1, by.2, (let below = by.3 in omega arith), by.4))
@@ -111,7 +111,7 @@ module _ (given : List ℕ → ℕ) (lines : List Lineage) (me : ℕ) (line : Li
 
       by_name : (parent : List ℕ) (k : ℕ) → (parent ≡ line.name) ⊎ Contains line.joined parent → k < gives_one given line.name parent → (same : Bool) → is_name parent line.name ≡ same → Contains (line.split ++ child_name line.name line.next ∷ []) (child_name parent k)
       by_name parent k from below true is = last_or parent k (is_name-true parent line.name is) (let here = ap (gives_one given line.name) (is_name-true parent line.name is) in let one = gives_here given line.name in omega arith)
-      by_name parent k from below false is = Contains-append_left line.split (child_name line.name line.next ∷ []) (child_name parent k) (fits.split parent k from (let none = ap (λ b. given parent + cond b 1 0) is in omega arith))
+      by_name parent k from below false is = Contains-append_left line.split (child_name line.name line.next ∷ []) (child_name parent k) (fits.split parent k from (let none = ap (λ same. given parent + cond same 1 0) is in omega arith))
 
   child_longer : child_name line.name line.next ≢ line.name
   child_longer is = omega (arith, ap length is, length-append line.name (line.next ∷ []))
@@ -223,28 +223,28 @@ module _ (given : List ℕ → ℕ) (lines : List Lineage) (me at_other : ℕ) (
   }
 
 -- A list is empty, or a list and a last
-last_of : (n : ℕ) (name : List ℕ) → length name ≡ n → (name ≡ []) ⊎ ((parent : List ℕ) × (k : ℕ) × (name ≡ child_name parent k))
-last_of n [] is = inl refl
-last_of n (x ∷ []) is = inr ([], x, refl)
-last_of n (x ∷ y ∷ ys) is =
+last_of : (bound : ℕ) (name : List ℕ) → length name ≡ bound → (name ≡ []) ⊎ ((parent : List ℕ) × (k : ℕ) × (name ≡ child_name parent k))
+last_of bound [] is = inl refl
+last_of bound (x ∷ []) is = inr ([], x, refl)
+last_of bound (x ∷ y ∷ ys) is =
     ⊎_elim (λ (none : (y ∷ ys) ≡ []). absurd (let short = ap length none in omega arith)) (λ (rest : (parent : List ℕ) × (k : ℕ) × ((y ∷ ys) ≡ child_name parent k)). inr (x ∷ rest.0, rest.1, ap (λ names. x ∷ names) rest.2)) (last_of (length (y ∷ ys)) (y ∷ ys) refl)
 
 module _ (given : List ℕ → ℕ) (line : Lineage) (fits : IsTrueLine given line) (root : line.name ≡ []) (all : (name : List ℕ) → Contains line.split name → Contains line.joined name) where
-  back_step : (n : ℕ) (name : List ℕ) → length name ≤ suc n → IsGivenOut given name → ((shorter : List ℕ) → length shorter ≤ n → IsGivenOut given shorter → (shorter ≡ []) ⊎ Contains line.joined shorter) → (parent : List ℕ) (k : ℕ) → name ≡ child_name parent k → Contains line.joined name
-  back_step n name short out shorter parent k is =
+  back_step : (bound : ℕ) (name : List ℕ) → length name ≤ suc bound → IsGivenOut given name → ((shorter : List ℕ) → length shorter ≤ bound → IsGivenOut given shorter → (shorter ≡ []) ⊎ Contains line.joined shorter) → (parent : List ℕ) (k : ℕ) → name ≡ child_name parent k → Contains line.joined name
+  back_step bound name short out shorter parent k is =
       let out' : IsGivenOut given (child_name parent k) = subst (IsGivenOut given) is out in
       let below : k < given parent = out' parent k (prefix_self (child_name parent k)) in
       let above : IsGivenOut given parent = λ ancestor j front. out' ancestor j (prefix_more (child_name ancestor j) parent (k ∷ []) front) in
       let from = shorter parent (omega (arith, ap length is, length-append parent (k ∷ []))) above in
       subst (Contains line.joined) (sym is) (all (child_name parent k) (fits.split parent k (⊎_elim (λ (none : parent ≡ []). inl (none ∙ sym root)) inr from) below))
 
-  back : (n : ℕ) (name : List ℕ) → length name ≤ n → IsGivenOut given name → (name ≡ []) ⊎ Contains line.joined name
+  back : (bound : ℕ) (name : List ℕ) → length name ≤ bound → IsGivenOut given name → (name ≡ []) ⊎ Contains line.joined name
   back zero name short out = inl (by_length name (omega arith))
     where
       by_length : (name : List ℕ) → length name ≡ 0 → name ≡ []
       by_length [] is = refl
       by_length (x ∷ xs) is = absurd (omega arith)
-  back (suc n) name short out = ⊎_elim inl (λ (last : (parent : List ℕ) × (k : ℕ) × (name ≡ child_name parent k)). inr (back_step n name short out (λ shorter less out. back n shorter less out) last.0 last.1 last.2)) (last_of (length name) name refl)
+  back (suc bound) name short out = ⊎_elim inl (λ (last : (parent : List ℕ) × (k : ℕ) × (name ≡ child_name parent k)). inr (back_step bound name short out (λ shorter less out. back bound shorter less out) last.0 last.1 last.2)) (last_of (length name) name refl)
 
   -- Where the first pass has all names that it gave out joined into it, each name that was given out is its own or a joined one
   pub all_joined : (name : List ℕ) → IsGivenOut given name → (name ≡ []) ⊎ Contains line.joined name

@@ -2,12 +2,12 @@
 use Rattle.std.proofs.Common.{◌≡◌, ℕ, Bool, true, false, true≢false, refl, sym, ◌∙◌, arith, Option, Some, None, is_some}
 use Rattle.book_gate.specs.Views.{tickets_in}
 
-pub bool_not : (b : Bool) → (b ≡ true → ⊥) → b ≡ false
+pub bool_not : (test : Bool) → (test ≡ true → ⊥) → test ≡ false
 bool_not true not = absurd (not refl)
 bool_not false not = refl
 
-pub not_true : (b : Bool) → b ≡ false → b ≡ true → ⊥
-not_true b off on = true≢false (sym on ∙ off)
+pub not_true : (test : Bool) → test ≡ false → test ≡ true → ⊥
+not_true test off on = true≢false (sym on ∙ off)
 
 module _ {X : Type 0} where
   pub no_value : (x : X) → None ≡ Some x → ⊥

@@ -50,40 +50,40 @@ module _ {A E : Type 0} (start : A) (log : List (Signed E)) (done all : ℕ) whe
   child_fits view fits unknown = record {
     opened = fits.opened;
     seen = fits.seen;
-    own = λ a live name has. subst (λ z. entries_by z view.seen ≡ entries_by z log) (contains_one (child_name view.name view.next) name has) (entries_by_unknown_prefix (child_name view.name view.next) view.seen log fits.seen unknown ∙ sym unknown);
+    own = λ origin live name has. subst (λ it. entries_by it view.seen ≡ entries_by it log) (contains_one (child_name view.name view.next) name has) (entries_by_unknown_prefix (child_name view.name view.next) view.seen log fits.seen unknown ∙ sym unknown);
     out = λ k is. absurd (no_value k is);
     alive = λ k is. absurd (no_value k is);
     turn = λ on. absurd (true≢false (sym on));
     lesson = λ lesson is. absurd (no_value lesson is);
   }
 
-  joined_fits : (view other : View A E) (a b : A) → view.start ≡ Some a → other.start ≡ Some b → view.turn ≡ false → ViewFits start log done all view → ViewFits start log done all other → ViewFits start log done all (joined_view view other)
-  joined_fits view other a b live alive rests mine theirs =
+  joined_fits : (view other : View A E) (origin origin' : A) → view.start ≡ Some origin → other.start ≡ Some origin' → view.turn ≡ false → ViewFits start log done all view → ViewFits start log done all other → ViewFits start log done all (joined_view view other)
+  joined_fits view other origin origin' live alive rests mine theirs =
       let long = longer_of log view.seen other.seen mine.seen theirs.seen in record {
         opened = mine.opened;
         seen = long.front;
         own = λ _ _ name has. ⊎_elim
-            (λ (own : Contains (own_names view) name). same_between name view.seen (longer view.seen other.seen) log long.own long.front (mine.own a live name own))
-            (λ (own : Contains (own_names other) name). same_between name other.seen (longer view.seen other.seen) log long.theirs long.front (theirs.own b alive name own))
+            (λ (own : Contains (own_names view) name). same_between name view.seen (longer view.seen other.seen) log long.own long.front (mine.own origin live name own))
+            (λ (own : Contains (own_names other) name). same_between name other.seen (longer view.seen other.seen) log long.theirs long.front (theirs.own origin' alive name own))
             (join_names view other name has);
         out = mine.out;
         alive = mine.alive;
         turn = λ on. absurd (not_true view.turn rests on);
-        lesson = λ lesson is. subst (λ (z : Lesson E). IsWhole (longer view.seen other.seen) z.own × IsWhole (longer view.seen other.seen) z.other) (some_same _ lesson is)
-            (whole_between (part_of view) (longer view.seen other.seen) log long.own long.front (mine.own a live), whole_between (part_of other) (longer view.seen other.seen) log long.theirs long.front (theirs.own b alive));
+        lesson = λ lesson is. subst (λ (it : Lesson E). IsWhole (longer view.seen other.seen) it.own × IsWhole (longer view.seen other.seen) it.other) (some_same _ lesson is)
+            (whole_between (part_of view) (longer view.seen other.seen) log long.own long.front (mine.own origin live), whole_between (part_of other) (longer view.seen other.seen) log long.theirs long.front (theirs.own origin' alive));
       }
 
-  taught_fits : (view glimpse : View A E) (a : A) → view.start ≡ Some a → view.turn ≡ false → ViewFits start log done all view → IsPrefix glimpse.seen log → ViewFits start log done all (taught_view view glimpse)
-  taught_fits view glimpse a live rests mine front =
+  taught_fits : (view glimpse : View A E) (origin : A) → view.start ≡ Some origin → view.turn ≡ false → ViewFits start log done all view → IsPrefix glimpse.seen log → ViewFits start log done all (taught_view view glimpse)
+  taught_fits view glimpse origin live rests mine front =
       let long = longer_of log view.seen glimpse.seen mine.seen front in record {
         opened = mine.opened;
         seen = long.front;
-        own = λ b is name has. same_between name view.seen (longer view.seen glimpse.seen) log long.own long.front (mine.own b is name has);
+        own = λ origin' is name has. same_between name view.seen (longer view.seen glimpse.seen) log long.own long.front (mine.own origin' is name has);
         out = mine.out;
         alive = mine.alive;
         turn = λ on. absurd (not_true view.turn rests on);
-        lesson = λ lesson is. subst (λ (z : Lesson E). IsWhole (longer view.seen glimpse.seen) z.own × IsWhole (longer view.seen glimpse.seen) z.other) (some_same _ lesson is)
-            (whole_between (part_of view) (longer view.seen glimpse.seen) log long.own long.front (mine.own a live), record { front = long.theirs; same = λ name has. absurd (contains_none name has) });
+        lesson = λ lesson is. subst (λ (it : Lesson E). IsWhole (longer view.seen glimpse.seen) it.own × IsWhole (longer view.seen glimpse.seen) it.other) (some_same _ lesson is)
+            (whole_between (part_of view) (longer view.seen glimpse.seen) log long.own long.front (mine.own origin live), record { front = long.theirs; same = λ name has. absurd (contains_none name has) });
       }
 
 module _ {T A E : Type 0} (stands : T → A → List E → Type 0) (law : A → List E → E → Type 0) (start : A) where
@@ -93,19 +93,19 @@ module _ {T A E : Type 0} (stands : T → A → List E → Type 0) (law : A → 
   abbrev Rule : Table → Type 0
   Rule = GateRule stands law start
 
-  pub splits : (me : ℕ) (view : View A E) (a : A) → view.start ≡ Some a → view.turn ≡ false → 0 < view.room → Splits Rule me view (parent_view view) (child_view view)
-  splits me view a live rests room state rule at =
+  pub splits : (me : ℕ) (view : View A E) (origin : A) → view.start ≡ Some origin → view.turn ≡ false → 0 < view.room → Splits Rule me view (parent_view view) (child_view view)
+  splits me view origin live rests room state rule at =
       let ledger = rule.ledger in
       let views = state.views in
       let mine = rule.each me view at in
-      let line = line_of stands law start state rule me view a at live in
+      let line = line_of stands law start state rule me view origin at live in
       let left = parent_view view in
       let right = child_view view in
       let old = set views me left in
       let unknown = next_unknown ledger.given view ledger.log line rule.history.named in record {
         ledger = record { log = ledger.log; given = gives_one ledger.given view.name; done = ledger.done; all = ledger.all };
         words = rule.words;
-        queue = queue_splits ledger.done ledger.all views rule.queue me view at left right refl refl (let whole = places_of_pass view a live in let first = places_of_pass left a live in let second = places_of_pass right a live in omega (arith, whole, first, second));
+        queue = queue_splits ledger.done ledger.all views rule.queue me view at left right refl refl (let whole = places_of_pass view origin live in let first = places_of_pass left origin live in let second = places_of_pass right origin live in omega (arith, whole, first, second));
         history = record {
           legal = rule.history.legal;
           named = λ x has. still_given ledger.given view.name x.name (rule.history.named x has);
@@ -137,8 +137,8 @@ module _ {T A E : Type 0} (stands : T → A → List E → Type 0) (law : A → 
         home = home_end stands start ledger.log state.homes old new refl (home_same stands start ledger.log state.homes views me view view at rests rests rule.home);
       }
 
-  pub joins : (me at_other : ℕ) (view other : View A E) (a b : A) → view.start ≡ Some a → view.turn ≡ false → other.start ≡ Some b → other.ticket ≡ None → other.turn ≡ false → Joins Rule me view at_other other (joined_view view other) spent_view
-  joins me at_other view other a b live rests alive idle rests' state rule at two there_now =
+  pub joins : (me at_other : ℕ) (view other : View A E) (origin origin' : A) → view.start ≡ Some origin → view.turn ≡ false → other.start ≡ Some origin' → other.ticket ≡ None → other.turn ≡ false → Joins Rule me view at_other other (joined_view view other) spent_view
+  joins me at_other view other origin origin' live rests alive idle rests' state rule at two there_now =
       let ledger = rule.ledger in
       let views = state.views in
       let both = joined_view view other in
@@ -148,30 +148,30 @@ module _ {T A E : Type 0} (stands : T → A → List E → Type 0) (law : A → 
       let theirs = rule.each at_other other there in
       let long = longer_of ledger.log view.seen other.seen mine.seen theirs.seen in
       let found : get_elem? (set mid at_other spent_view) me ≡ some both = set_else mid at_other me spent_view (λ same. two (sym same)) ∙ set_here views me both (at_below views me view at) in
-      let here : a ≡ start = mine.opened a live in
+      let here : origin ≡ start = mine.opened origin live in
       let whole_now : (view.seen ≡ ledger.log) ⊎ (other.seen ≡ ledger.log) → IsSeen start ledger.log (set mid at_other spent_view) = λ whole. (me, both, found, live ∙ ap Some here, longer_whole ledger.log view.seen other.seen long whole) in
       let whole = rule.history.seen in record {
         ledger = ledger;
         words = rule.words;
         queue = queue_joins ledger.done ledger.all views rule.queue me view at at_other other both spent_view there_now refl idle refl
-            (let first = places_of_pass view a live in let second = places_of_pass other b alive in let sum = places_of_pass both a live in omega (arith, first, second, sum));
+            (let first = places_of_pass view origin live in let second = places_of_pass other origin' alive in let sum = places_of_pass both origin live in omega (arith, first, second, sum));
         history = record {
           legal = rule.history.legal;
           named = rule.history.named;
-          seen = dite (ℕ_discrete whole.0 me) (λ is. whole_now (inl (ap (λ (z : View A E). z.seen) (same_at views whole.0 me view whole.1 whole.2 at is) ∙ whole.4)))
-              (λ else. dite (ℕ_discrete whole.0 at_other) (λ is. whole_now (inr (ap (λ (z : View A E). z.seen) (same_at views whole.0 at_other other whole.1 whole.2 there is) ∙ whole.4)))
+          seen = dite (ℕ_discrete whole.0 me) (λ is. whole_now (inl (ap (λ (it : View A E). it.seen) (same_at views whole.0 me view whole.1 whole.2 at is) ∙ whole.4)))
+              (λ else. dite (ℕ_discrete whole.0 at_other) (λ is. whole_now (inr (ap (λ (it : View A E). it.seen) (same_at views whole.0 at_other other whole.1 whole.2 there is) ∙ whole.4)))
               (λ else'. (whole.0, whole.1, set_else mid at_other whole.0 spent_view else' ∙ (set_else views me whole.0 both else ∙ whole.2), whole.3, whole.4)));
         };
         each = each_set (λ _ (third : View A E). ViewFits start ledger.log ledger.done ledger.all third) mid at_other spent_view (fits_no_pass start ledger.log ledger.done ledger.all [] (ledger.log, refl))
-            (λ j third _ at'. each_set (λ _ (third : View A E). ViewFits start ledger.log ledger.done ledger.all third) views me both (joined_fits start ledger.log ledger.done ledger.all view other a b live alive rests mine theirs)
+            (λ j third _ at'. each_set (λ _ (third : View A E). ViewFits start ledger.log ledger.done ledger.all third) views me both (joined_fits start ledger.log ledger.done ledger.all view other origin origin' live alive rests mine theirs)
             (λ i fourth _ at''. rule.each i fourth at'') j third at');
         names = subst (NamesAgree ledger.given) (sym (map-set lineage mid at_other spent_view ∙ ap (λ lines. set lines at_other (lineage (spent_view {A = A} {E = E}))) (map-set lineage views me both)))
             (names_join ledger.given (map lineage views) me at_other (lineage view) (lineage other) rule.names (at_map lineage views me view at) (at_map lineage views at_other other there) (ap is_some live) (ap is_some alive));
         home = home_same stands start ledger.log state.homes mid at_other other spent_view there_now rests' refl (home_same stands start ledger.log state.homes views me view both at rests rests rule.home);
       }
 
-  pub learns : (me at_other : ℕ) (view glimpse : View A E) (a : A) → view.start ≡ Some a → view.turn ≡ false → is_some glimpse.start ≡ false → glimpse.ticket ≡ None → glimpse.turn ≡ false → Joins Rule me view at_other glimpse (taught_view view glimpse) spent_view
-  learns me at_other view glimpse a live rests no_pass idle rests' state rule at two there_now =
+  pub learns : (me at_other : ℕ) (view glimpse : View A E) (origin : A) → view.start ≡ Some origin → view.turn ≡ false → is_some glimpse.start ≡ false → glimpse.ticket ≡ None → glimpse.turn ≡ false → Joins Rule me view at_other glimpse (taught_view view glimpse) spent_view
+  learns me at_other view glimpse origin live rests no_pass idle rests' state rule at two there_now =
       let ledger = rule.ledger in
       let views = state.views in
       let taught = taught_view view glimpse in
@@ -180,7 +180,7 @@ module _ {T A E : Type 0} (stands : T → A → List E → Type 0) (law : A → 
       let mine = rule.each me view at in
       let long = longer_of ledger.log view.seen glimpse.seen mine.seen (rule.each at_other glimpse there).seen in
       let found : get_elem? (set mid at_other spent_view) me ≡ some taught = set_else mid at_other me spent_view (λ same. two (sym same)) ∙ set_here views me taught (at_below views me view at) in
-      let here : a ≡ start = mine.opened a live in
+      let here : origin ≡ start = mine.opened origin live in
       let whole = rule.history.seen in record {
         ledger = ledger;
         words = rule.words;
@@ -189,13 +189,13 @@ module _ {T A E : Type 0} (stands : T → A → List E → Type 0) (law : A → 
           legal = rule.history.legal;
           named = rule.history.named;
           seen = dite (ℕ_discrete whole.0 me)
-              (λ is. (me, taught, found, live ∙ ap Some here, longer_whole ledger.log view.seen glimpse.seen long (inl (ap (λ (z : View A E). z.seen) (same_at views whole.0 me view whole.1 whole.2 at is) ∙ whole.4))))
+              (λ is. (me, taught, found, live ∙ ap Some here, longer_whole ledger.log view.seen glimpse.seen long (inl (ap (λ (it : View A E). it.seen) (same_at views whole.0 me view whole.1 whole.2 at is) ∙ whole.4))))
               (λ else.
-              let else' : whole.0 ≢ at_other = λ is. none_of glimpse.start no_pass start (ap (λ (z : View A E). z.start) (same_at views whole.0 at_other glimpse whole.1 whole.2 there is) ∙ whole.3) in
+              let else' : whole.0 ≢ at_other = λ is. none_of glimpse.start no_pass start (ap (λ (it : View A E). it.start) (same_at views whole.0 at_other glimpse whole.1 whole.2 there is) ∙ whole.3) in
               (whole.0, whole.1, set_else mid at_other whole.0 spent_view else' ∙ (set_else views me whole.0 taught else ∙ whole.2), whole.3, whole.4));
         };
         each = each_set (λ _ (third : View A E). ViewFits start ledger.log ledger.done ledger.all third) mid at_other spent_view (fits_no_pass start ledger.log ledger.done ledger.all [] (ledger.log, refl))
-            (λ j third _ at'. each_set (λ _ (third : View A E). ViewFits start ledger.log ledger.done ledger.all third) views me taught (taught_fits start ledger.log ledger.done ledger.all view glimpse a live rests mine (rule.each at_other glimpse there).seen)
+            (λ j third _ at'. each_set (λ _ (third : View A E). ViewFits start ledger.log ledger.done ledger.all third) views me taught (taught_fits start ledger.log ledger.done ledger.all view glimpse origin live rests mine (rule.each at_other glimpse there).seen)
             (λ i fourth _ at''. rule.each i fourth at'') j third at');
         names = subst (NamesAgree ledger.given) (sym (map-set lineage mid at_other spent_view)) (names_drop ledger.given (map lineage mid) (names_same ledger.given views me view taught at refl rule.names) at_other);
         home = home_same stands start ledger.log state.homes mid at_other glimpse spent_view there_now rests' refl (home_same stands start ledger.log state.homes views me view taught at rests rests rule.home);
@@ -213,7 +213,7 @@ module _ {T A E : Type 0} (stands : T → A → List E → Type 0) (law : A → 
     history = record { legal = λ before entry front. absurd (no_longer before entry front); named = λ x has. absurd (contains_none x has); seen = (0, first, refl, refl, refl) };
     each = λ i view at. subst (ViewFits start [] 0 0) (only_first i first view at).1
         (record {
-          opened = λ a starts. some_same a start (sym starts);
+          opened = λ origin starts. some_same origin start (sym starts);
           seen = ([], refl);
           own = λ _ _ _ _. refl;
           out = λ k out. absurd (no_value k out);
@@ -224,10 +224,10 @@ module _ {T A E : Type 0} (stands : T → A → List E → Type 0) (law : A → 
     names = record {
       each = λ i line at live. subst (IsTrueLine (λ _. 0)) (first_line i line at).1
           (record { out = λ parent k front. absurd (no_longer parent k front); next = refl; split = λ parent k from below. absurd (omega arith); joined = λ name has. absurd (contains_none name has); only = λ name has. absurd (contains_none name has) });
-      pairs = λ i j line other at there _ _. record { one = λ _. (first_line i line at).0 ∙ sym (first_line j other there).0; gone = λ has. contains_none _ (subst (λ (z : Lineage). Contains z.joined other.name) (sym (first_line i line at).1) has) };
+      pairs = λ i j line other at there _ _. record { one = λ _. (first_line i line at).0 ∙ sym (first_line j other there).0; gone = λ has. contains_none _ (subst (λ (it : Lineage). Contains it.joined other.name) (sym (first_line i line at).1) has) };
       unused = λ name not. refl;
     };
-    home = inl (held, refl, is, λ i view at. ap (λ (z : View A E). z.turn) (sym (only_first i first view at).1));
+    home = inl (held, refl, is, λ i view at. ap (λ (it : View A E). it.turn) (sym (only_first i first view at).1));
   }
     where
       first : View A E
@@ -241,23 +241,23 @@ module _ {T A E : Type 0} (stands : T → A → List E → Type 0) (law : A → 
       first_line (suc i) line at = absurd (some-ne-none line (sym at))
 
   -- Where the first pass has all others joined into it, the state is at home and stands for what the pass has seen
-  pub closes : (me : ℕ) (view : View A E) (state : Table) (a : A) → Rule state → get_elem? state.views me ≡ some view → view.start ≡ Some a → view.turn ≡ false → view.name ≡ [] → ((name : List ℕ) → Contains view.split name → Contains view.joined name)
-      → (held : T) × (get_elem? state.homes 0 ≡ some (some (Some held))) × stands held a (entries view.seen)
-  closes me view state a rule at live rests root all =
+  pub closes : (me : ℕ) (view : View A E) (state : Table) (origin : A) → Rule state → get_elem? state.views me ≡ some view → view.start ≡ Some origin → view.turn ≡ false → view.name ≡ [] → ((name : List ℕ) → Contains view.split name → Contains view.joined name)
+      → (held : T) × (get_elem? state.homes 0 ≡ some (some (Some held))) × stands held origin (entries view.seen)
+  closes me view state origin rule at live rests root all =
       let ledger = rule.ledger in
       let views = state.views in
       let mine = rule.each me view at in
-      let here : a ≡ start = mine.opened a live in
-      let line = line_of stands law start state rule me view a at live in
+      let here : origin ≡ start = mine.opened origin live in
+      let line = line_of stands law start state rule me view origin at live in
       let only_me : (j : ℕ) (other : View A E) → get_elem? views j ≡ some other → is_some other.start ≡ true → j ≡ me =
       λ j other there alive. alone ledger.given (lineage view) line root all (map lineage views) me j (lineage other) rule.names (at_map lineage views me view at) (ap is_some live) (at_map lineage views j other there) alive in
       let last = rule.history.seen in
-      let whole : view.seen ≡ ledger.log = ap (λ (z : View A E). z.seen) (same_at views last.0 me view last.1 last.2 at (only_me last.0 last.1 last.2 (ap is_some last.3))) ∙ last.4 in
+      let whole : view.seen ≡ ledger.log = ap (λ (it : View A E). it.seen) (same_at views last.0 me view last.1 last.2 at (only_me last.0 last.1 last.2 (ap is_some last.3))) ∙ last.4 in
       ⊎_elim
       (λ (in_slot : (held : T) × (get_elem? state.homes 0 ≡ some (some (Some held))) × stands held start (entries ledger.log) × ((i : ℕ) (other : View A E) → get_elem? views i ≡ some other → other.turn ≡ false)).
-      (in_slot.0, in_slot.1, subst (λ (z : A × List (Signed E)). stands in_slot.0 z.0 (entries z.1)) (λ i. (sym here i, sym whole i)) in_slot.2))
+      (in_slot.0, in_slot.1, subst (λ (it : A × List (Signed E)). stands in_slot.0 it.0 (entries it.1)) (λ i. (sym here i, sym whole i)) in_slot.2))
       (λ (out : (i : ℕ) × (other : View A E) × (get_elem? views i ≡ some other) × (other.turn ≡ true)).
       let fits = rule.each out.0 out.1 out.2 in
       let alive = ap is_some (fits.alive ledger.done (fits.turn out.3).0) in
-      absurd (not_true view.turn rests (ap (λ (z : View A E). z.turn) (same_at views out.0 me view out.1 out.2 at (only_me out.0 out.1 out.2 alive)) ∙ out.3)))
+      absurd (not_true view.turn rests (ap (λ (it : View A E). it.turn) (same_at views out.0 me view out.1 out.2 at (only_me out.0 out.1 out.2 alive)) ∙ out.3)))
       rule.home

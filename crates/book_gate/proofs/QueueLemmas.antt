@@ -18,7 +18,7 @@ one_or_none (Some k) = omega arith
 
 module _ {A E : Type 0} where
   pub places_of_pass : (view : View A E) (start : A) → view.start ≡ Some start → places_of view ≡ view.room + 1
-  places_of_pass view start is = ap (λ (z : Option A). cond (is_some z) (view.room + 1) 0) is
+  places_of_pass view start is = ap (λ (it : Option A). cond (is_some it) (view.room + 1) 0) is
 
   none_out : (view : View A E) → view.ticket ≡ None → tickets_of view ≡ 0
   none_out view is = ap tickets_in is
@@ -27,10 +27,10 @@ module _ {A E : Type 0} where
   one_out view k is = ap tickets_in is
 
   -- Where only passes have tickets, there are fewer tickets out than passes
-  pub few_out : (views : List (View A E)) → sum_by places_of views ≤ 2 ^ 62 → ((i : ℕ) (view : View A E) → get_elem? views i ≡ some view → (k : ℕ) → view.ticket ≡ Some k → (a : A) × (view.start ≡ Some a)) → sum_by tickets_of views ≤ 2 ^ 62
+  pub few_out : (views : List (View A E)) → sum_by places_of views ≤ 2 ^ 62 → ((i : ℕ) (view : View A E) → get_elem? views i ≡ some view → (k : ℕ) → view.ticket ≡ Some k → (origin : A) × (view.start ≡ Some origin)) → sum_by tickets_of views ≤ 2 ^ 62
   few_out views few alive = omega (arith, few, sum_below tickets_of places_of views (λ i view at. by_ticket view view.ticket refl (alive i view at)))
     where
-      by_ticket : (view : View A E) (ticket : Option ℕ) → view.ticket ≡ ticket → ((k : ℕ) → view.ticket ≡ Some k → (a : A) × (view.start ≡ Some a)) → tickets_of view ≤ places_of view
+      by_ticket : (view : View A E) (ticket : Option ℕ) → view.ticket ≡ ticket → ((k : ℕ) → view.ticket ≡ Some k → (origin : A) × (view.start ≡ Some origin)) → tickets_of view ≤ places_of view
       by_ticket view None is alive = omega (arith, none_out view is)
       by_ticket view (Some k) is alive = let live = alive k is in omega (arith, one_out view k is, places_of_pass view live.0 live.1)
 
@@ -58,12 +58,12 @@ module _ {A E : Type 0} where
   -- A step of a view that has another ticket, or none
   keeps_holder : (views : List (View A E)) (me : ℕ) (view new : View A E) (k : ℕ) → get_elem? views me ≡ some view → (view.ticket ≡ Some k → ⊥) → HasHolder k views → HasHolder k (set views me new)
   keeps_holder views me view new k at lacks holder =
-      (holder.0, holder.1, set_else views me holder.0 new (λ same. lacks (ap (λ (z : View A E). z.ticket) (same_at views holder.0 me view holder.1 holder.2 at same) ∙ holder.3)) ∙ holder.2, holder.3)
+      (holder.0, holder.1, set_else views me holder.0 new (λ same. lacks (ap (λ (it : View A E). it.ticket) (same_at views holder.0 me view holder.1 holder.2 at same) ∙ holder.3)) ∙ holder.2, holder.3)
 
   -- A step of a view that leaves its ticket
   still_holder : (views : List (View A E)) (me : ℕ) (view new : View A E) (k : ℕ) → get_elem? views me ≡ some view → new.ticket ≡ view.ticket → HasHolder k views → HasHolder k (set views me new)
   still_holder views me view new k at same holder = dite (ℕ_discrete holder.0 me)
-      (λ here. (me, new, set_here views me new (at_below views me view at), same ∙ (ap (λ (z : View A E). z.ticket) (same_at views holder.0 me view holder.1 holder.2 at here) ∙ holder.3)))
+      (λ here. (me, new, set_here views me new (at_below views me view at), same ∙ (ap (λ (it : View A E). it.ticket) (same_at views holder.0 me view holder.1 holder.2 at here) ∙ holder.3)))
       (λ else. (holder.0, holder.1, set_else views me holder.0 new else ∙ holder.2, holder.3))
 
   module _ (done all : ℕ) (views : List (View A E)) (queue : Queue done all views) (me : ℕ) (view : View A E) (at : get_elem? views me ≡ some view) where

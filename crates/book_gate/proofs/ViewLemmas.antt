@@ -38,11 +38,11 @@ module _ {A E : Type 0} (start : A) (log : List (Signed E)) (done all : ℕ) (vi
   }
 
   -- An entry of a name is counted that isn't one of this view's names
-  pub fits_longer : (name : List ℕ) (entry : E) → view.turn ≡ false → ((a : A) → view.start ≡ Some a → (own : List ℕ) → Contains (own_names view) own → own ≢ name) → ViewFits start (log ++ signed name entry ∷ []) done all view
+  pub fits_longer : (name : List ℕ) (entry : E) → view.turn ≡ false → ((origin : A) → view.start ≡ Some origin → (own : List ℕ) → Contains (own_names view) own → own ≢ name) → ViewFits start (log ++ signed name entry ∷ []) done all view
   fits_longer name entry rests apart = record {
     opened = fits.opened;
     seen = prefix_more view.seen log (signed name entry ∷ []) fits.seen;
-    own = λ a live own has. fits.own a live own has ∙ sym (entries_by-other own name log entry (apart a live own has));
+    own = λ origin live own has. fits.own origin live own has ∙ sym (entries_by-other own name log entry (apart origin live own has));
     out = fits.out;
     alive = fits.alive;
     turn = λ on. absurd (not_true view.turn rests on);
@@ -53,9 +53,9 @@ module _ {A E : Type 0} where
   -- A view that is no pass
   pub fits_no_pass : (start : A) (log : List (Signed E)) (done all : ℕ) (seen : List (Signed E)) → IsPrefix seen log → ViewFits {A = A} start log done all (Rattle.book_gate.specs.Views.glimpse_view seen)
   fits_no_pass start log done all seen front = record {
-    opened = λ a is. absurd (no_value a is);
+    opened = λ origin is. absurd (no_value origin is);
     seen = front;
-    own = λ a is. absurd (no_value a is);
+    own = λ origin is. absurd (no_value origin is);
     out = λ k is. absurd (no_value k is);
     alive = λ k is. absurd (no_value k is);
     turn = λ on. absurd (true≢false (sym on));
@@ -74,8 +74,8 @@ module _ {A E : Type 0} where
         me,
         new,
         set_here views me new (at_below views me view at),
-        starts ∙ (ap (λ (z : View A E). z.start) is ∙ whole.3),
-        sees ∙ (ap (λ (z : View A E). z.seen) is ∙ whole.4),
+        starts ∙ (ap (λ (it : View A E). it.start) is ∙ whole.3),
+        sees ∙ (ap (λ (it : View A E). it.seen) is ∙ whole.4),
       ))
       (λ else. (whole.0, whole.1, set_else views me whole.0 new else ∙ whole.2, whole.3, whole.4))
 
@@ -87,12 +87,12 @@ module _ {E : Type 0} where
   longer_by : (xs ys : List (Signed E)) (test : Bool) → nat_lt (length xs) (length ys) ≡ test → ((longer xs ys ≡ ys) × (length xs ≤ length ys)) ⊎ ((longer xs ys ≡ xs) × (length ys ≤ length xs))
   longer_by xs ys true is = inl (ap (λ test. cond test ys xs) is, below (length xs) (length ys) is)
     where
-      below : (m n : ℕ) → nat_lt m n ≡ true → m ≤ n
-      below m n is = grind (arith, nat_tests)
+      below : (left right : ℕ) → nat_lt left right ≡ true → left ≤ right
+      below left right is = grind (arith, nat_tests)
   longer_by xs ys false is = inr (ap (λ test. cond test ys xs) is, below (length xs) (length ys) is)
     where
-      below : (m n : ℕ) → nat_lt m n ≡ false → n ≤ m
-      below m n is = grind (arith, nat_tests)
+      below : (left right : ℕ) → nat_lt left right ≡ false → right ≤ left
+      below left right is = grind (arith, nat_tests)
 
   -- Of two beginnings of the history, the longer goes on from both
   pub record IsLonger (log xs ys : List (Signed E)) : Type 0 where
@@ -105,9 +105,9 @@ module _ {E : Type 0} where
   longer_of log xs ys first second =
       ⊎_elim
       (λ (is : (longer xs ys ≡ ys) × (length xs ≤ length ys)).
-      record { front = subst (λ z. IsPrefix z log) (sym is.0) second; own = subst (IsPrefix xs) (sym is.0) (prefix_shorter xs ys log first second is.1); theirs = subst (IsPrefix ys) (sym is.0) (prefix_self ys); one = inr is.0 })
+      record { front = subst (λ it. IsPrefix it log) (sym is.0) second; own = subst (IsPrefix xs) (sym is.0) (prefix_shorter xs ys log first second is.1); theirs = subst (IsPrefix ys) (sym is.0) (prefix_self ys); one = inr is.0 })
       (λ (is : (longer xs ys ≡ xs) × (length ys ≤ length xs)).
-      record { front = subst (λ z. IsPrefix z log) (sym is.0) first; own = subst (IsPrefix xs) (sym is.0) (prefix_self xs); theirs = subst (IsPrefix ys) (sym is.0) (prefix_shorter ys xs log second first is.1); one = inl is.0 })
+      record { front = subst (λ it. IsPrefix it log) (sym is.0) first; own = subst (IsPrefix xs) (sym is.0) (prefix_self xs); theirs = subst (IsPrefix ys) (sym is.0) (prefix_shorter ys xs log second first is.1); one = inl is.0 })
       (longer_by xs ys (nat_lt (length xs) (length ys)) refl)
 
   -- A part whose names have no more entries in the whole history has none more in a list between
@@ -123,7 +123,7 @@ module _ {T A E : Type 0} (stands : T → A → List E → Type 0) (start : A) w
       (λ (in_slot : (state : T) × (get_elem? homes 0 ≡ some (some (Some state))) × stands state start (entries log) × ((i : ℕ) (other : View A E) → get_elem? views i ≡ some other → other.turn ≡ false)).
       inl (in_slot.0, in_slot.1, in_slot.2, each_set (λ _ (other : View A E). other.turn ≡ false) views me new still (λ j other _ there. in_slot.3 j other there)))
       (λ (out : (i : ℕ) × (other : View A E) × (get_elem? views i ≡ some other) × (other.turn ≡ true)).
-      let apart : out.0 ≢ me = λ here. not_true view.turn rests (ap (λ (z : View A E). z.turn) (same_at views out.0 me view out.1 out.2 at here) ∙ out.3) in
+      let apart : out.0 ≢ me = λ here. not_true view.turn rests (ap (λ (it : View A E). it.turn) (same_at views out.0 me view out.1 out.2 at here) ∙ out.3) in
       inr (out.0, out.1, set_else views me out.0 new apart ∙ out.2, out.3))
       home
 

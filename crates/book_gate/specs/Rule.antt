@@ -22,9 +22,9 @@ pub record Ledger (E : Type 0) : Type 0 where
 module _ {A E : Type 0} where
   -- What the rule says of one view
   pub record ViewFits (start : A) (log : List (Signed E)) (done all : ℕ) (view : View A E) : Type 0 where
-    pub opened : (a : A) → view.start ≡ Some a → a ≡ start
+    pub opened : (origin : A) → view.start ≡ Some origin → origin ≡ start
     pub seen : IsPrefix view.seen log
-    pub own : (a : A) → view.start ≡ Some a → (name : List ℕ) → Contains (own_names view) name → entries_by name view.seen ≡ entries_by name log
+    pub own : (origin : A) → view.start ≡ Some origin → (name : List ℕ) → Contains (own_names view) name → entries_by name view.seen ≡ entries_by name log
     pub out : (k : ℕ) → view.ticket ≡ Some k → (done ≤ k) × (k < all)
     pub alive : (k : ℕ) → view.ticket ≡ Some k → view.start ≡ Some start
     pub turn : view.turn ≡ true → (view.ticket ≡ Some done) × (view.seen ≡ log)

@@ -53,9 +53,9 @@ impl<T: Held> Model for Gate<T> {
 
     ghost coded = { table_id_coded };
 
-    ghost view = { λ g. g.table.shared.table_id };
+    ghost view = { λ gate. gate.table.shared.table_id };
 
-    ghost invariant = { λ g. (g.table.shared.table_id.words ≡ 3) × (g.table.shared.table_id.slots ≡ 1) };
+    ghost invariant = { λ gate. (gate.table.shared.table_id.words ≡ 3) × (gate.table.shared.table_id.slots ≡ 1) };
 }
 
 impl<T: Held> Gate<T> {
@@ -63,8 +63,8 @@ impl<T: Held> Gate<T> {
     /// The state comes back where there is no memory.
     pub fn open(alloc: Global, state: T, start: Snapshot<T::Start>) -> Result<Opened<T>, T>
         requires { T.stands state start.value [] }
-        ensures opened { IfOk result (λ o. o.pass ≡ first_known o.gate start.value) }
-        ensures back { IfErr result (λ s. s ≡ state) }
+        ensures opened { IfOk result (λ opened. opened.pass ≡ first_known opened.gate start.value) }
+        ensures back { IfErr result (λ given_back. given_back ≡ state) }
     {
         let mut slots = Vec::new(alloc);
         if let Err(failed) = slots.push(Some(state)) {
@@ -96,7 +96,7 @@ impl<T: Held> Gate<T> {
     /// memory: passes are counted, and the count of those that may still come from this pass is 0. This pass is then unchanged.
     pub fn split(&self, pass: &mut Pass<T>) -> Result<Pass<T>, NoMemory>
         requires { pass.old.gate ≡ self.now }
-        ensures new { IfOk result (λ p. IsSplit T.law pass.old pass.new p) }
+        ensures new { IfOk result (λ child. IsSplit T.law pass.old pass.new child) }
         ensures same { OnErr result (pass.new ≡ pass.old) }
     {
         self.table.shared.load::<Review<T>>(&mut pass.seat, SERVING);

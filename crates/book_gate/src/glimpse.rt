@@ -14,7 +14,7 @@ impl<T: Held> Model for Glimpse<T> {
 
     ghost Value = { Glimpsed T.Entry };
 
-    ghost view = { λ g. glimpsed g.seat };
+    ghost view = { λ glimpse. glimpsed glimpse.seat };
 
-    ghost invariant = { λ g. IsGlimpse g.seat };
+    ghost invariant = { λ glimpse. IsGlimpse glimpse.seat };
 }

@@ -17,7 +17,7 @@ impl<T: Held> Model for Pass<T> {
 
     ghost Value = { Known T.Start T.Entry };
 
-    ghost view = { λ p. known p.seat };
+    ghost view = { λ pass. known pass.seat };
 
-    ghost invariant = { λ p. IsAtRest p.seat p.room };
+    ghost invariant = { λ pass. IsAtRest pass.seat pass.room };
 }

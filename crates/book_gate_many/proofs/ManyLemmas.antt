@@ -30,8 +30,8 @@ module _ {A E : Type 0} where
   joined_from names (other ∷ others) one name has from =
       ⊎_elim
       (λ (is : other ≡ one). joined_before ((names ++ other.joined) ++ other.name ∷ []) others name
-      (⊎_elim (λ (own : one.name ≡ name). Contains-append_right (names ++ other.joined) (other.name ∷ []) name (subst (Contains (other.name ∷ [])) (ap (λ (z : Known A E). z.name) is ∙ own) (contains_here other.name [])))
-      (λ (inner : Contains one.joined name). Contains-append_left (names ++ other.joined) (other.name ∷ []) name (Contains-append_right names other.joined name (subst (λ (z : Known A E). Contains z.joined name) (sym is) inner))) from))
+      (⊎_elim (λ (own : one.name ≡ name). Contains-append_right (names ++ other.joined) (other.name ∷ []) name (subst (Contains (other.name ∷ [])) (ap (λ (it : Known A E). it.name) is ∙ own) (contains_here other.name [])))
+      (λ (inner : Contains one.joined name). Contains-append_left (names ++ other.joined) (other.name ∷ []) name (Contains-append_right names other.joined name (subst (λ (it : Known A E). Contains it.joined name) (sym is) inner))) from))
       (λ rest. joined_from ((names ++ other.joined) ++ other.name ∷ []) others one name rest from)
       (contains_cases other others one has)
 
@@ -48,19 +48,19 @@ module _ {A E : Type 0} where
 
   pub one_more : (law : A → List E → E → Type 0) (pass now later last : Known A E) (others : List (Known A E)) → IsAllJoined pass others now → IsJoin law now last later → IsAllJoined pass (others ++ last ∷ []) later
   one_more law pass now later last others all join =
-      let name_is = ap (λ (z : Known A E). z.name) all.becomes in
-      let joined_is = ap (λ (z : Known A E). z.joined) all.becomes in record {
+      let name_is = ap (λ (it : Known A E). it.name) all.becomes in
+      let joined_is = ap (λ (it : Known A E). it.joined) all.becomes in record {
         becomes = join.becomes
-            ∙ ((λ i. record (all.becomes i) { seen = longer now.seen last.seen; split = ap (λ (z : Known A E). z.split) all.becomes i ++ last.split; joined = (joined_is i ++ last.joined) ++ last.name ∷ [] })
-            ∙ (λ i. record pass { seen = sym (ap (λ (z : Known A E). z.seen) join.becomes) i; split = sym (split_with-push pass.split others last) i; joined = sym (joined_with-push pass.joined others last) i }));
+            ∙ ((λ i. record (all.becomes i) { seen = longer now.seen last.seen; split = ap (λ (it : Known A E). it.split) all.becomes i ++ last.split; joined = (joined_is i ++ last.joined) ++ last.name ∷ [] })
+            ∙ (λ i. record pass { seen = sym (ap (λ (it : Known A E). it.seen) join.becomes) i; split = sym (split_with-push pass.split others last) i; joined = sym (joined_with-push pass.joined others last) i }));
         own = record {
           front = prefix_trans pass.seen now.seen later.seen all.own.front join.own.front;
-          mine = subst (λ z. entries_by z later.seen ≡ entries_by z now.seen) name_is join.own.mine ∙ all.own.mine;
-          joined = λ name has. join.own.joined name (subst (λ z. Contains z name) (sym joined_is) (joined_before pass.joined others name has)) ∙ all.own.joined name has;
+          mine = subst (λ it. entries_by it later.seen ≡ entries_by it now.seen) name_is join.own.mine ∙ all.own.mine;
+          joined = λ name has. join.own.joined name (subst (λ it. Contains it name) (sym joined_is) (joined_before pass.joined others name has)) ∙ all.own.joined name has;
         };
         theirs = λ other has. ⊎_elim
-            (λ (old : Contains others other). goes_on other now later (all.theirs other old) join.own (λ name from. subst (λ z. Contains z name) (sym joined_is) (joined_from pass.joined others other name old from)))
-            (λ (new : Contains (last ∷ []) other). subst (λ (z : Known A E). Continues z later) (contains_one last other new) join.theirs)
+            (λ (old : Contains others other). goes_on other now later (all.theirs other old) join.own (λ name from. subst (λ it. Contains it name) (sym joined_is) (joined_from pass.joined others other name old from)))
+            (λ (new : Contains (last ∷ []) other). subst (λ (it : Known A E). Continues it later) (contains_one last other new) join.theirs)
             (Contains-append_cases others (last ∷ []) other has);
       }
 
@@ -69,7 +69,7 @@ module _ {A E : Type 0} where
   brought names [] name none has = has
   brought names (other ∷ others) name none has =
       let before : Contains (names ++ other.split) name = brought (names ++ other.split) others name (λ one in_rest. none one (contains_there other others one in_rest)) has in
-      ⊎_elim (λ own. own) (λ (theirs : Contains other.split name). absurd (contains_none name (subst (λ z. Contains z name) (none other (contains_here other others)) theirs))) (Contains-append_cases names other.split name before)
+      ⊎_elim (λ own. own) (λ (theirs : Contains other.split name). absurd (contains_none name (subst (λ it. Contains it name) (none other (contains_here other others)) theirs))) (Contains-append_cases names other.split name before)
 
   names_joined : (names : List (List ℕ)) (others : List (Known A E)) (name : List ℕ) → Contains (map (λ other. other.name) others) name → Contains (joined_with names others) name
   names_joined names [] name has = absurd (contains_none name has)
@@ -77,9 +77,9 @@ module _ {A E : Type 0} where
       ⊎_elim (λ (is : other.name ≡ name). joined_from names (other ∷ others) other name (contains_here other others) (inl is)) (λ rest. names_joined ((names ++ other.joined) ++ other.name ∷ []) others name rest) (contains_cases other.name (map (λ one. one.name) others) name has)
 
   -- Where the first pass gave out no names but the others', which gave out none, all are back
-  pub all_back : (pass later : Known A E) (others : List (Known A E)) → IsAllJoined pass others later → ((name : List ℕ) → Contains pass.split name → Contains (map (λ other. other.name) others) name) → ((other : Known A E) → Contains others other → other.split ≡ []) → (k : ℕ) (d : List ℕ) → k < length later.split
-      → Contains later.joined (slice_index_or later.split k d)
-  all_back pass later others all names none k d below =
-      let name : List ℕ = slice_index_or later.split k d in
-      let was : Contains (split_with pass.split others) name = subst (λ (z : Known A E). Contains z.split name) all.becomes (contains_at later.split k d below) in
-      subst (λ (z : Known A E). Contains z.joined name) (sym all.becomes) (names_joined pass.joined others name (names name (brought pass.split others name none was)))
+  pub all_back : (pass later : Known A E) (others : List (Known A E)) → IsAllJoined pass others later → ((name : List ℕ) → Contains pass.split name → Contains (map (λ other. other.name) others) name) → ((other : Known A E) → Contains others other → other.split ≡ []) → (k : ℕ) (fallback : List ℕ) → k < length later.split
+      → Contains later.joined (slice_index_or later.split k fallback)
+  all_back pass later others all names none k fallback below =
+      let name : List ℕ = slice_index_or later.split k fallback in
+      let was : Contains (split_with pass.split others) name = subst (λ (it : Known A E). Contains it.split name) all.becomes (contains_at later.split k fallback below) in
+      subst (λ (it : Known A E). Contains it.joined name) (sym all.becomes) (names_joined pass.joined others name (names name (brought pass.split others name none was)))

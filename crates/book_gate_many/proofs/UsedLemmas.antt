@@ -19,7 +19,7 @@ module _ {A E : Type 0} (gate : TableId) where
   leaves_but_last passes rest last is leaves =
       let all : AreLeaves gate (rest ++ last ∷ []) = subst (AreLeaves gate) is leaves in (
         record {
-          gates = λ k d below. All-contains (λ (pass : Known A E). pass.gate ≡ gate) (rest ++ last ∷ []) _ all.gates (Contains-append_left rest (last ∷ []) _ (contains_at rest k d below));
+          gates = λ k fallback below. All-contains (λ (pass : Known A E). pass.gate ≡ gate) (rest ++ last ∷ []) _ all.gates (Contains-append_left rest (last ∷ []) _ (contains_at rest k fallback below));
           none = λ pass has. all.none pass (Contains-append_left rest (last ∷ []) pass has);
         },
         All-contains (λ (pass : Known A E). pass.gate ≡ gate) (rest ++ last ∷ []) last all.gates (contains_last rest last),
@@ -28,33 +28,33 @@ module _ {A E : Type 0} (gate : TableId) where
 
   pub one_more_leaf : (used : List (Known A E)) (before after : Known A E) → IsLater before after → before.gate ≡ gate → before.split ≡ [] → AreLeaves gate used → AreLeaves gate (used ++ after ∷ [])
   one_more_leaf used before after later of none leaves = record {
-    gates = All-push (λ (pass : Known A E). pass.gate ≡ gate) used after leaves.gates (ap (λ (z : Known A E). z.gate) later ∙ of);
-    none = λ pass has. ⊎_elim (λ (old : Contains used pass). leaves.none pass old) (λ (new : Contains (after ∷ []) pass). ap (λ (z : Known A E). z.split) (sym (contains_one after pass new) ∙ later) ∙ none) (Contains-append_cases used (after ∷ []) pass has);
+    gates = All-push (λ (pass : Known A E). pass.gate ≡ gate) used after leaves.gates (ap (λ (it : Known A E). it.gate) later ∙ of);
+    none = λ pass has. ⊎_elim (λ (old : Contains used pass). leaves.none pass old) (λ (new : Contains (after ∷ []) pass). ap (λ (it : Known A E). it.split) (sym (contains_one after pass new) ∙ later) ∙ none) (Contains-append_cases used (after ∷ []) pass has);
   }
 
 module _ {A E : Type 0} (names : List (List ℕ)) where
   pub all_in_rest : (passes used : List (Known A E)) → names ≡ map (λ pass. pass.name) passes → AreNamesOfBoth names passes used
-  all_in_rest passes used is name has = inl (subst (λ z. Contains z name) is has)
+  all_in_rest passes used is name has = inl (subst (λ it. Contains it name) is has)
 
   pub all_in_used : (rest used : List (Known A E)) → rest ≡ [] → AreNamesOfBoth names rest used → AreNamesOf names used
   all_in_used rest used none both name has =
-      ⊎_elim (λ (old : Contains (map (λ (pass : Known A E). pass.name) rest) name). absurd (contains_none name (subst (λ (z : List (Known A E)). Contains (map (λ pass. pass.name) z) name) none old))) (λ new. new) (both name has)
+      ⊎_elim (λ (old : Contains (map (λ (pass : Known A E). pass.name) rest) name). absurd (contains_none name (subst (λ (it : List (Known A E)). Contains (map (λ pass. pass.name) it) name) none old))) (λ new. new) (both name has)
 
   pub one_goes_over : (passes rest used : List (Known A E)) (before after : Known A E) → passes ≡ rest ++ before ∷ [] → IsLater before after → AreNamesOfBoth names passes used → AreNamesOfBoth names rest (used ++ after ∷ [])
   one_goes_over passes rest used before after is later both name has =
       ⊎_elim
       (λ (old : Contains (map (λ (pass : Known A E). pass.name) passes) name).
-      ⊎_elim (λ (still : Contains (map (λ (pass : Known A E). pass.name) rest) name). inl still) (λ (last : Contains (before.name ∷ []) name). inr (over (subst (λ z. Contains (z ∷ []) name) (sym (ap (λ (z : Known A E). z.name) later)) last)))
-      (Contains-append_cases (map (λ (pass : Known A E). pass.name) rest) (before.name ∷ []) name (subst (λ z. Contains z name) (ap (map (λ (pass : Known A E). pass.name)) is ∙ map-append (λ (pass : Known A E). pass.name) rest (before ∷ [])) old)))
-      (λ (new : Contains (map (λ (pass : Known A E). pass.name) used) name). inr (subst (λ z. Contains z name) (sym (map-append (λ (pass : Known A E). pass.name) used (after ∷ []))) (Contains-append_left (map (λ (pass : Known A E). pass.name) used) (after.name ∷ []) name new)))
+      ⊎_elim (λ (still : Contains (map (λ (pass : Known A E). pass.name) rest) name). inl still) (λ (last : Contains (before.name ∷ []) name). inr (over (subst (λ it. Contains (it ∷ []) name) (sym (ap (λ (it : Known A E). it.name) later)) last)))
+      (Contains-append_cases (map (λ (pass : Known A E). pass.name) rest) (before.name ∷ []) name (subst (λ it. Contains it name) (ap (map (λ (pass : Known A E). pass.name)) is ∙ map-append (λ (pass : Known A E). pass.name) rest (before ∷ [])) old)))
+      (λ (new : Contains (map (λ (pass : Known A E). pass.name) used) name). inr (subst (λ it. Contains it name) (sym (map-append (λ (pass : Known A E). pass.name) used (after ∷ []))) (Contains-append_left (map (λ (pass : Known A E). pass.name) used) (after.name ∷ []) name new)))
       (both name has)
     where
       over : Contains (after.name ∷ []) name → Contains (map (λ (pass : Known A E). pass.name) (used ++ after ∷ [])) name
-      over last = subst (λ z. Contains z name) (sym (map-append (λ (pass : Known A E). pass.name) used (after ∷ []))) (Contains-append_right (map (λ (pass : Known A E). pass.name) used) (after.name ∷ []) name last)
+      over last = subst (λ it. Contains it name) (sym (map-append (λ (pass : Known A E). pass.name) used (after ∷ []))) (Contains-append_right (map (λ (pass : Known A E). pass.name) used) (after.name ∷ []) name last)
 
 module _ {A E : Type 0} where
   later_of : (gate : TableId) (name : List ℕ) (split : List (List ℕ)) (pass later : Known A E) → IsLater pass later → IsOf gate name split pass → IsOf gate name split later
-  later_of gate name split pass later is of = record { gate_is = ap (λ (z : Known A E). z.gate) is ∙ of.gate_is; name_is = ap (λ (z : Known A E). z.name) is ∙ of.name_is; split_is = ap (λ (z : Known A E). z.split) is ∙ of.split_is }
+  later_of gate name split pass later is of = record { gate_is = ap (λ (it : Known A E). it.gate) is ∙ of.gate_is; name_is = ap (λ (it : Known A E). it.name) is ∙ of.name_is; split_is = ap (λ (it : Known A E). it.split) is ∙ of.split_is }
 
   -- Both passes have seen more
   pub pair_later : (gate : TableId) (pass one two one' two' : Known A E) → ArePair gate pass one two → IsLater one one' → IsLater two two' → ArePair gate pass one' two'
@@ -63,20 +63,20 @@ module _ {A E : Type 0} where
   -- Two passes were split off the first
   pub pair_of : (law : A → List E → E → Type 0) (gate : TableId) (start : A) (pass pass' pass'' one two : Known A E) → pass ≡ first_known gate start → IsSplit law pass pass' one → IsSplit law pass' pass'' two → ArePair gate pass'' one two
   pair_of law gate start pass pass' pass'' one two is first second =
-      let gate_is = ap (λ (z : Known A E). z.gate) is in
-      let name_is = ap (λ (z : Known A E). z.name) is in
-      let next_is = ap (λ (z : Known A E). z.next) is in
-      let split_is = ap (λ (z : Known A E). z.split) is in record {
+      let gate_is = ap (λ (it : Known A E). it.gate) is in
+      let name_is = ap (λ (it : Known A E). it.name) is in
+      let next_is = ap (λ (it : Known A E). it.next) is in
+      let split_is = ap (λ (it : Known A E). it.split) is in record {
         first = record {
-          gate_is = ap (λ (z : Known A E). z.gate) second.becomes ∙ (ap (λ (z : Known A E). z.gate) first.becomes ∙ gate_is);
-          name_is = ap (λ (z : Known A E). z.name) second.becomes ∙ (ap (λ (z : Known A E). z.name) first.becomes ∙ name_is);
-          split_is = ap (λ (z : Known A E). z.split) second.becomes ∙ (ap (λ (z : Known A E). z.split ++ (z.name ++ z.next ∷ []) ∷ []) first.becomes ∙ ap (λ (z : Known A E). (z.split ++ (z.name ++ z.next ∷ []) ∷ []) ++ (z.name ++ (z.next + 1) ∷ []) ∷ []) is);
+          gate_is = ap (λ (it : Known A E). it.gate) second.becomes ∙ (ap (λ (it : Known A E). it.gate) first.becomes ∙ gate_is);
+          name_is = ap (λ (it : Known A E). it.name) second.becomes ∙ (ap (λ (it : Known A E). it.name) first.becomes ∙ name_is);
+          split_is = ap (λ (it : Known A E). it.split) second.becomes ∙ (ap (λ (it : Known A E). it.split ++ (it.name ++ it.next ∷ []) ∷ []) first.becomes ∙ ap (λ (it : Known A E). (it.split ++ (it.name ++ it.next ∷ []) ∷ []) ++ (it.name ++ (it.next + 1) ∷ []) ∷ []) is);
         };
-        left = record { gate_is = ap (λ (z : Known A E). z.gate) first.given ∙ gate_is; name_is = ap (λ (z : Known A E). z.name) first.given ∙ ap (λ (z : Known A E). z.name ++ z.next ∷ []) is; split_is = ap (λ (z : Known A E). z.split) first.given };
+        left = record { gate_is = ap (λ (it : Known A E). it.gate) first.given ∙ gate_is; name_is = ap (λ (it : Known A E). it.name) first.given ∙ ap (λ (it : Known A E). it.name ++ it.next ∷ []) is; split_is = ap (λ (it : Known A E). it.split) first.given };
         right = record {
-          gate_is = ap (λ (z : Known A E). z.gate) second.given ∙ (ap (λ (z : Known A E). z.gate) first.becomes ∙ gate_is);
-          name_is = ap (λ (z : Known A E). z.name) second.given ∙ (ap (λ (z : Known A E). z.name ++ z.next ∷ []) first.becomes ∙ ap (λ (z : Known A E). z.name ++ (z.next + 1) ∷ []) is);
-          split_is = ap (λ (z : Known A E). z.split) second.given;
+          gate_is = ap (λ (it : Known A E). it.gate) second.given ∙ (ap (λ (it : Known A E). it.gate) first.becomes ∙ gate_is);
+          name_is = ap (λ (it : Known A E). it.name) second.given ∙ (ap (λ (it : Known A E). it.name ++ it.next ∷ []) first.becomes ∙ ap (λ (it : Known A E). it.name ++ (it.next + 1) ∷ []) is);
+          split_is = ap (λ (it : Known A E). it.split) second.given;
         };
       }
 
@@ -87,9 +87,9 @@ module _ {A E : Type 0} where
     name_is = pair.first.name_is;
     leaves = record {
       gates = (one_more_leaf gate (one ∷ []) two two refl pair.right.gate_is pair.right.split_is (one_more_leaf gate [] one one refl pair.left.gate_is pair.left.split_is (no_leaves gate [] refl))).gates;
-      none = λ other has. ⊎_elim (λ (same : one ≡ other). ap (λ (z : Known A E). z.split) (sym same) ∙ pair.left.split_is) (λ (rest : Contains (two ∷ []) other). ap (λ (z : Known A E). z.split) (sym (contains_one two other rest)) ∙ pair.right.split_is) (contains_cases one (two ∷ []) other has);
+      none = λ other has. ⊎_elim (λ (same : one ≡ other). ap (λ (it : Known A E). it.split) (sym same) ∙ pair.left.split_is) (λ (rest : Contains (two ∷ []) other). ap (λ (it : Known A E). it.split) (sym (contains_one two other rest)) ∙ pair.right.split_is) (contains_cases one (two ∷ []) other has);
     };
-    names = λ name has. subst (λ z. Contains z name) (pair.first.split_is ∙ (λ i. sym pair.left.name_is i ∷ sym pair.right.name_is i ∷ [])) has;
+    names = λ name has. subst (λ it. Contains it name) (pair.first.split_is ∙ (λ i. sym pair.left.name_is i ∷ sym pair.right.name_is i ∷ [])) has;
   })
 
   children_are : (gate : TableId) (pass : Known A E) (k count : ℕ) → pass.gate ≡ gate → AreLeaves gate (children_of pass k count) × (child_names pass.name k count ≡ map (λ child. child.name) (children_of pass k count))
@@ -104,12 +104,12 @@ module _ {A E : Type 0} where
   -- The passes that were split off the first are all
   pub many_all : (gate : TableId) (start : A) (count : ℕ) (pass later : Known A E) (passes : List (Known A E)) → pass ≡ first_known gate start → IsMany pass count later passes → AreAll gate later passes
   many_all gate start count pass later passes is many =
-      let children = children_are gate pass pass.next count (ap (λ (z : Known A E). z.gate) is) in record {
-        gate_is = ap (λ (z : Known A E). z.gate) many.becomes ∙ ap (λ (z : Known A E). z.gate) is;
-        name_is = ap (λ (z : Known A E). z.name) many.becomes ∙ ap (λ (z : Known A E). z.name) is;
+      let children = children_are gate pass pass.next count (ap (λ (it : Known A E). it.gate) is) in record {
+        gate_is = ap (λ (it : Known A E). it.gate) many.becomes ∙ ap (λ (it : Known A E). it.gate) is;
+        name_is = ap (λ (it : Known A E). it.name) many.becomes ∙ ap (λ (it : Known A E). it.name) is;
         leaves = subst (AreLeaves gate) (sym many.given) children.0;
         names = λ name has.
-            subst (λ z. Contains z name) (ap (λ (z : Known A E). z.split) many.becomes ∙ (ap (λ (z : Known A E). z.split ++ child_names pass.name pass.next count) is ∙ (children.1 ∙ ap (map (λ (child : Known A E). child.name)) (sym many.given)))) has;
+            subst (λ it. Contains it name) (ap (λ (it : Known A E). it.split) many.becomes ∙ (ap (λ (it : Known A E). it.split ++ child_names pass.name pass.next count) is ∙ (children.1 ∙ ap (map (λ (child : Known A E). child.name)) (sym many.given)))) has;
       }
 
   -- The same passes after calls, in another order

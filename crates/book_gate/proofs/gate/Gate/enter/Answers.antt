@@ -56,8 +56,8 @@ leave-requires-clause-ready g c =
       start = live.0;
       started = ap (λ view. view.start) is ∙ start;
       turn = ap (λ view. view.turn) is;
-      allowed = subst (λ (z : List (Signed g.row.T-Entry.Denot) × g.row.C.Denot). g.T.Held.law live.0 (entries z.0) (g.C.Call.entry z.1 c.on-answer.result)) (λ i. (sym seen i, sym said i)) after.1;
-      stands_for = subst (λ (z : List (Signed g.row.T-Entry.Denot) × g.row.C.Denot). g.T.Held.stands c.on-answer.new.state live.0 (entries z.0 ++ g.C.Call.entry z.1 c.on-answer.result ∷ [])) (λ i. (sym seen i, sym said i)) after.0;
+      allowed = subst (λ (it : List (Signed g.row.T-Entry.Denot) × g.row.C.Denot). g.T.Held.law live.0 (entries it.0) (g.C.Call.entry it.1 c.on-answer.result)) (λ i. (sym seen i, sym said i)) after.1;
+      stands_for = subst (λ (it : List (Signed g.row.T-Entry.Denot) × g.row.C.Denot). g.T.Held.stands c.on-answer.new.state live.0 (entries it.0 ++ g.C.Call.entry it.1 c.on-answer.result ∷ [])) (λ i. (sym seen i, sym said i)) after.0;
     }
 
 pub returns : goal.returns
