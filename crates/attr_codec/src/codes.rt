@@ -44,23 +44,51 @@ pub const EXTENDED_COMMUNITIES: u8 = 16;
 /// LARGE_COMMUNITY (RFC 8092, section 3).
 pub const LARGE_COMMUNITY: u8 = 32;
 
-/// The origins IGP, EGP and INCOMPLETE (RFC 4271, section 4.3).
+/// The origin IGP: interior to the originating AS (RFC 4271, section 4.3).
 pub const IGP: u8 = 0;
+
+/// The origin EGP: learned by the protocol of that name (RFC 4271, section 4.3).
 pub const EGP: u8 = 1;
+
+/// The origin INCOMPLETE: learned by some other means (RFC 4271, section 4.3).
 pub const INCOMPLETE: u8 = 2;
 
-/// The types of a segment of an AS path (RFC 4271, section 4.3).
+/// A segment that is an unordered set of AS numbers (RFC 4271, section 4.3).
 pub const AS_SET: u8 = 1;
+
+/// A segment that is an ordered sequence of AS numbers (RFC 4271, section 4.3).
 pub const AS_SEQUENCE: u8 = 2;
+
+/// How many bytes stand before a segment's numbers: its type and its count (RFC 4271, section 4.3).
+pub const SEGMENT_HEAD: usize = 2;
+
+/// How many bytes a number has: an AS number (RFC 6793), an IPv4 address, a community (RFC 1997).
+pub const NUMBER_LEN: usize = 4;
+
+/// How many bytes an AGGREGATOR has: an AS number and an IPv4 address (RFC 6793, section 3).
+pub const AGGREGATOR_LEN: usize = 8;
+
+/// How many bytes an extended community has (RFC 4360, section 2).
+pub const EXT_LEN: usize = 8;
+
+/// How many bytes a large community has (RFC 8092, section 3).
+pub const LARGE_LEN: usize = 12;
 
 /// The AFI of IPv6 in two bytes, and the SAFI of unicast (RFC 4760, sections 3 and 6).
 pub const IPV6_UNICAST: [u8; 3] = [0, 2, 1];
 
 /// How many bytes an IPv6 next hop has (RFC 2545, section 3).
-pub const IPV6_HOP_LEN: u8 = 16;
+pub const IPV6_HOP_LEN: usize = 16;
 
 /// The byte between the next hop and the prefixes of an MP_REACH_NLRI (RFC 4760, section 3).
 pub const RESERVED: u8 = 0;
+
+/// What an MP_REACH_NLRI has beside next hop and prefixes: AFI and SAFI, the length of the next hop, and the reserved
+/// byte (RFC 4760, section 3).
+pub const REACH_FIXED: usize = 5;
+
+/// How many bytes an MP_REACH_NLRI of IPv6 has without prefixes.
+pub const REACH_LEN: usize = REACH_FIXED + IPV6_HOP_LEN;
 
 /// Which of the two upper bits of its flags an attribute has: optional and transitive (RFC 4271, section 4.3).
 /// A code that isn't listed above is never written.

@@ -7,6 +7,8 @@
 
 mod codes;
 mod message;
+#[cfg(test)]
+mod tests;
 mod writing;
 
 pub use message::Message;

@@ -10,6 +10,7 @@ const MAX_MESSAGE: usize = 65_535;
 
 /// Where the length of the whole message stands in its header (RFC 4271, section 4.1).
 const LEN_START: usize = 16;
+
 const LEN_END: usize = 18;
 
 /// A buffer for one message, with a room of its own: how many bytes may stand in it, at most 65,535. It takes 64 KB

@@ -3,6 +3,7 @@ ghost use Rattle.std.specs.Prelude.{◌≡◌, ◌+◌, ◌≤◌, ◌↔◌, []
 ghost use Rattle.std.specs.Bool.{OnTrue, OnFalse};
 ghost use Rattle.route_values.specs.Addr.{family_of};
 ghost use Rattle.update_grammar.specs.Written.{attributes_text, unreach_text, raw_when, raw_if};
+ghost use Rattle.update_grammar.specs.Attributes.{transitive, optional_transitive};
 ghost use Rattle.update_grammar.specs.Values.{origin_number, aggregator_text};
 ghost use Rattle.attr_codec.specs.Buffer.{HasRoom, Appended};
 ghost use Rattle.attr_codec.specs.Groups.{raws_text, first_text, second_text, third_text, last_text};
@@ -15,18 +16,17 @@ mod lists;
 mod path;
 
 use crate::codes::{
-    AGGREGATOR, ATOMIC_AGGREGATE, CLUSTER_LIST, COMMUNITIES, EGP, EXTENDED_COMMUNITIES, IGP,
-    INCOMPLETE, IPV6_UNICAST, Kind, LARGE_COMMUNITY, LOCAL_PREF, MP_UNREACH_NLRI, MULTI_EXIT_DISC,
-    ORIGIN, ORIGINATOR_ID,
+    AGGREGATOR, AGGREGATOR_LEN, ATOMIC_AGGREGATE, CLUSTER_LIST, COMMUNITIES, EGP,
+    EXTENDED_COMMUNITIES, IGP, INCOMPLETE, IPV6_UNICAST, Kind, LARGE_COMMUNITY, LOCAL_PREF,
+    MP_UNREACH_NLRI, MULTI_EXIT_DISC, ORIGIN, ORIGINATOR_ID,
 };
 use crate::message::Message;
 use head::{put_head, put_number, put_plain};
 use hop::{put_next_hop, put_reach_head};
+pub use lengths::attrs_len;
 use lists::{put_exts, put_larges, put_u32s};
 use path::put_path;
 use route_values::{Aggregator, Family, Origin, WireAttrs};
-
-pub use lengths::attrs_len;
 
 /// Puts the attributes of an announcement at the end, in rising order of their codes (RFC 4271, section 5, and
 /// appendix F.4), where they fit. An extended length is used exactly where a value passes 255 bytes. For IPv6 the
@@ -97,7 +97,8 @@ fn put_third(out: &mut Message, attrs: &WireAttrs)
     requires fits { HasRoom out.old (length (third_text attrs.now)) }
     ensures { Appended out.old out.new (third_text attrs.now) }
 {
-    put_u32s(out, Kind::OptionalTransitive, COMMUNITIES, attrs.communities.as_slice());
+    let communities = attrs.communities.as_slice();
+    put_u32s(out, Kind::OptionalTransitive, COMMUNITIES, communities);
     put_number(out, Kind::Optional, ORIGINATOR_ID, attrs.originator);
     put_u32s(out, Kind::Optional, CLUSTER_LIST, attrs.clusters.as_slice());
 }
@@ -114,8 +115,8 @@ fn put_last(out: &mut Message, attrs: &WireAttrs)
 }
 
 fn put_atomic(out: &mut Message, atomic: bool)
-    requires { HasRoom out.old (length (raws_text (raw_when atomic 64 6))) }
-    ensures { Appended out.old out.new (raws_text (raw_when atomic 64 6)) }
+    requires { HasRoom out.old (length (raws_text (raw_when atomic transitive 6))) }
+    ensures { Appended out.old out.new (raws_text (raw_when atomic transitive 6)) }
 {
     if atomic {
         put_plain(out, Kind::WellKnown, ATOMIC_AGGREGATE, &[]);
@@ -123,11 +124,11 @@ fn put_atomic(out: &mut Message, atomic: bool)
 }
 
 fn put_aggregator(out: &mut Message, aggregator: Option<Aggregator>)
-    requires { HasRoom out.old (length (raws_text (raw_if aggregator_text 192 7 aggregator))) }
-    ensures { Appended out.old out.new (raws_text (raw_if aggregator_text 192 7 aggregator)) }
+    requires { HasRoom out.old (length (raws_text (raw_if aggregator_text optional_transitive 7 aggregator))) }
+    ensures { Appended out.old out.new (raws_text (raw_if aggregator_text optional_transitive 7 aggregator)) }
 {
     if let Some(aggregator) = aggregator {
-        put_head(out, Kind::OptionalTransitive, AGGREGATOR, 8);
+        put_head(out, Kind::OptionalTransitive, AGGREGATOR, AGGREGATOR_LEN);
         out.append(&aggregator.asn.to_be_bytes());
         out.append(&aggregator.addr.to_be_bytes());
     }

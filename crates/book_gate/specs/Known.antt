@@ -1,6 +1,6 @@
 -- What contracts see of a pass, and of a glimpse.
 use Rattle.std.specs.Prelude.{◌≡◌, ℕ, false, true, List, [], length, Option, is_some}
-use Rattle.atomic_table.specs.Seated.{TableId}
+pub use Rattle.atomic_table.specs.Seated.{TableId}
 use Rattle.atomic_table.specs.declared.shared.Seat.{Seat}
 use Rattle.book_gate.specs.declared.view.Signed.{Signed}
 use Rattle.book_gate.specs.declared.view.View.{View}

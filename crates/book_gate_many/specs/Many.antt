@@ -1,45 +1,48 @@
 -- Any number of passes of one gate.
-use Rattle.std.specs.Prelude.{◌≡◌, ℕ, zero, suc, ◌+◌, List, [], ◌∷◌, ◌++◌, Some}
-use mathlib.Core.List.{IsPrefix}
-use Rattle.book_gate.specs.Kin.{child}
+use Rattle.std.specs.Prelude.{◌≡◌, ℕ, zero, suc, ◌+◌, List, [], ◌∷◌, ◌++◌, Contains}
+use Rattle.book_gate.specs.Names.{child_name}
 use Rattle.book_gate.specs.Known.{Known}
-use Rattle.book_gate.specs.declared.view.Signed.{Signed}
-use Rattle.book_gate.specs.Histories.{made}
+use Rattle.book_gate.specs.Calls.{Continues, Stands}
 
--- n names that a pass gives out, from the k-th on
-abbrev pub children : List ℕ → ℕ → ℕ → List (List ℕ)
-children p k zero = []
-children p k (suc n) = children p k n ++ child p (k + n) ∷ []
+-- The count names that a pass gives out from the k-th on
+abbrev pub child_names : List ℕ → ℕ → ℕ → List (List ℕ)
+child_names parent k zero = []
+child_names parent k (suc count) = child_names parent k count ++ child_name parent (k + count) ∷ []
 
 module _ {A E : Type 0} where
-  abbrev pub newborn : Known A E → ℕ → Known A E
-  newborn p k = record { gate = p.gate; start = p.start; name = child p.name k; next = 0; seen = p.seen; split = []; joined = [] }
+  -- The pass that has the k-th name of a pass, has seen as much and gave out no name
+  abbrev pub child_of : Known A E → ℕ → Known A E
+  child_of pass k = record pass { name = child_name pass.name k; next = 0; split = []; joined = [] }
 
-  abbrev pub newborns : Known A E → ℕ → ℕ → List (Known A E)
-  newborns p k zero = []
-  newborns p k (suc n) = newborns p k n ++ newborn p (k + n) ∷ []
+  -- The passes that have the count names from the k-th on
+  abbrev pub children_of : Known A E → ℕ → ℕ → List (Known A E)
+  children_of pass k zero = []
+  children_of pass k (suc count) = children_of pass k count ++ child_of pass (k + count) ∷ []
 
-  abbrev pub parent_of : Known A E → ℕ → Known A E
-  parent_of p n = record p { next = p.next + n; split = p.split ++ children p.name p.next n }
+  -- The pass gave out this many names, and the new passes have them
+  pub record IsMany (pass : Known A E) (count : ℕ) (later : Known A E) (new : List (Known A E)) : Type 0 where
+    pub becomes : later ≡ record pass { next = pass.next + count; split = pass.split ++ child_names pass.name pass.next count }
+    pub given : new ≡ children_of pass pass.next count
 
-  pub record IsMany (p : Known A E) (n : ℕ) (q : Known A E) (new : List (Known A E)) : Type 0 where
-    pub pass : q ≡ parent_of p n
-    pub given : new ≡ newborns p p.next n
-
-  -- the names given out, and those joined, with what the others bring
+  -- The names given out, with those that the others gave out
   abbrev pub split_with : List (List ℕ) → List (Known A E) → List (List ℕ)
-  split_with ns [] = ns
-  split_with ns (o ∷ os) = split_with (ns ++ o.split) os
+  split_with names [] = names
+  split_with names (other ∷ others) = split_with (names ++ other.split) others
 
+  -- The joined names, with the others' and those joined into them
   abbrev pub joined_with : List (List ℕ) → List (Known A E) → List (List ℕ)
-  joined_with ns [] = ns
-  joined_with ns (o ∷ os) = joined_with ((ns ++ o.joined) ++ o.name ∷ []) os
+  joined_with names [] = names
+  joined_with names (other ∷ others) = joined_with ((names ++ other.joined) ++ other.name ∷ []) others
 
-  pub record IsAllJoined (p : Known A E) (others : List (Known A E)) (q : Known A E) : Type 0 where
-    pub pass : q ≡ record p { seen = q.seen; split = split_with p.split others; joined = joined_with p.joined others }
-    pub seen : IsPrefix p.seen q.seen
+  -- The pass went on from what it had seen and from what each of the others had, and has the names of all
+  pub record IsAllJoined (pass : Known A E) (others : List (Known A E)) (later : Known A E) : Type 0 where
+    pub becomes : later ≡ record pass { seen = later.seen; split = split_with pass.split others; joined = joined_with pass.joined others }
+    pub own : Continues pass later
+    pub theirs : (other : Known A E) → Contains others other → Continues other later
 
 module _ {T A E : Type 0} (stands : T → A → List E → Type 0) where
-  -- the state stands for a history that begins with what the pass had seen
-  abbrev pub StandsFor : T → Known A E → Type 0
-  StandsFor y p = (h : List (Signed E)) × IsPrefix p.seen h × ((b : A) → p.start ≡ Some b → stands y b (made h))
+  -- The state stands for what the pass has seen after all others were joined into it
+  pub record Closes (pass : Known A E) (others : List (Known A E)) (state : T) : Type 0 where
+    pub later : Known A E
+    pub joined : IsAllJoined pass others later
+    pub stands_for : Stands stands state later

@@ -18,7 +18,7 @@ use Rattle.exa_top.specs.Commands.{Reads, ReadsWords}
 use Rattle.exa_top.specs.Slots.{slot_at, slot_of, entry_of, IsSlot, IsTable, IsPut, Took, TookAll}
 
 hop_fits : (text : List ℕ) (hop : ℕ) → IsIpv4 text hop → hop < 2 ^ 32
-hop_fits text hop is = omega (arith, is.number, is.a_small, is.b_small, is.c_small, is.d_small)
+hop_fits text hop is = omega (arith, is.value, is.first_small, is.second_small, is.third_small, is.fourth_small)
 
 -- what a line says makes an entry of an IPv4 prefix
 pub slot_fits : (words : List (List ℕ)) (command : Command) → ReadsWords words command → IsSlot (slot_of command)

@@ -13,7 +13,7 @@ version_text = codes "exabgpd 0.1.0\n"
 
 -- what `--help` writes
 abbrev pub help_text : List ℕ
-help_text = codes "usage: exabgpd encode LOCAL_AS PEER_AS LOCAL_IP   reads announce and withdraw lines, writes replies and UPDATE messages\n       exabgpd --help                              writes this text\n       exabgpd --version                           writes the name and the version\n"
+help_text = codes "usage: exabgpd encode LOCAL_AS PEER_AS LOCAL_IP\n           reads announce and withdraw lines, writes replies and UPDATE messages\n       exabgpd --help\n           writes this text\n       exabgpd --version\n           writes the name and the version\n"
 
 -- the output that belongs to a command and what it read
 abbrev pub IsOutput : TextCommand → List ℕ → List ℕ → Type 0
@@ -27,20 +27,16 @@ ReadsWhole (Encode side) given gives ended ends input = Grows given gives input 
 ReadsWhole Help given gives ended ends input = Grows given gives [] × (ends ≡ ended)
 ReadsWhole Version given gives ended ends input = Grows given gives [] × (ends ≡ ended)
 
--- the words spell a command, which read its whole input and wrote its whole output
-pub record Finished (words : List (List ℕ)) (given gives : Option (List ℕ)) (ended ends : Bool) (taken takes : Option (List ℕ)) : Type 0 where
-  pub command : TextCommand
-  pub spelled : IsCommand words command
+-- a command read its whole input and wrote its whole output
+pub record Ran (command : TextCommand) (given gives : Option (List ℕ)) (ended ends : Bool) (taken takes : Option (List ℕ)) : Type 0 where
   pub input : List ℕ
   pub output : List ℕ
   pub read : ReadsWhole command given gives ended ends input
   pub written : Grows taken takes output
   pub outcome : IsOutput command input output
 
--- the words spell a command, which read some input and wrote a part of the output that belongs to it
-pub record Broken (words : List (List ℕ)) (given gives : Option (List ℕ)) (taken takes : Option (List ℕ)) : Type 0 where
-  pub command : TextCommand
-  pub spelled : IsCommand words command
+-- a command read some input and wrote the front of the output that belongs to it
+pub record Broke (command : TextCommand) (given gives taken takes : Option (List ℕ)) : Type 0 where
   pub input : List ℕ
   pub part : List ℕ
   pub rest : List ℕ
@@ -48,9 +44,21 @@ pub record Broken (words : List (List ℕ)) (given gives : Option (List ℕ)) (t
   pub written : Grows taken takes part
   pub outcome : IsOutput command input (part ++ rest)
 
--- nothing was written, or the front of an output
+-- a command that didn't end well wrote nothing, or the front of an output
+abbrev pub Stopped : TextCommand → Option (List ℕ) → Option (List ℕ) → Option (List ℕ) → Option (List ℕ) → Type 0
+Stopped command given gives taken takes = Grows taken takes [] ⊎ Broke command given gives taken takes
+
+-- the words spell a command that ended well
+abbrev pub Finished : List (List ℕ) → Option (List ℕ) → Option (List ℕ) → Bool → Bool → Option (List ℕ) → Option (List ℕ) → Type 0
+Finished words given gives ended ends taken takes = (command : TextCommand) × IsCommand words command × Ran command given gives ended ends taken takes
+
+-- nothing was written, or the words spell a command that wrote the front of an output
 abbrev pub Began : List (List ℕ) → Option (List ℕ) → Option (List ℕ) → Option (List ℕ) → Option (List ℕ) → Type 0
-Began words given gives taken takes = Grows taken takes [] ⊎ Broken words given gives taken takes
+Began words given gives taken takes = Grows taken takes [] ⊎ ((command : TextCommand) × IsCommand words command × Broke command given gives taken takes)
+
+-- a sink took the front of a text
+abbrev pub TookPart : Option (List ℕ) → Option (List ℕ) → List ℕ → Type 0
+TookPart taken takes text = (part : List ℕ) × (rest : List ℕ) × (text ≡ part ++ rest) × Grows taken takes part
 
 -- so many bytes were given, and the end wasn't met
 pub record GaveLimit (limit : ℕ) (given gives : Option (List ℕ)) (ended ends : Bool) : Type 0 where

@@ -7,11 +7,13 @@ use crate::messages::{put_marker, put_messages};
 use crate::table::empty_table;
 use route_values::{NoMemory, Side};
 use std::alloc::Global;
+use update_grammar::written_is_spelled;
 
 /// A reply to each line, and then the messages that leave at a neighbour what the lines say.
 pub fn encode_all(alloc: Global, side: &Side, input: &[u8]) -> Result<Vec<u8>, NoMemory>
     ensures { IfOk result (λ text. IsEncoding side.now input.now text.items) }
 {
+    written_is_spelled();
     let mut text = Vec::new(alloc);
     let mut table = empty_table(alloc);
     answer_all(&mut text, &mut table, input)?;

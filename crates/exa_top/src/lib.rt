@@ -12,8 +12,8 @@ mod encoding;
 mod messages;
 mod status;
 mod table;
+mod top;
 mod words;
 
 pub use status::Status;
-pub use encoding::encode_all;
-pub use words::{TextCommand, text_command};
+pub use top::exabgp_text;

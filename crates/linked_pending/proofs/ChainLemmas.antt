@@ -87,9 +87,6 @@ length-holds next items holds room =
 pub len_within : (next prev : List ℕ) (len : ℕ) → IsChain next prev len → 0 < length next → len < length next
 len_within next prev len chain room = subst (λ count. count < length next) (length-walk len (link next) 0) (length-holds next _ chain.holds room)
 
-pub spot_within : (next prev : List ℕ) (len spot : ℕ) → IsChain next prev len → 0 < length next → (spot ≡ 0) ⊎ (has spot (walk len (link next) 0) ≡ true) → spot < length next
-spot_within next prev len spot chain room spot_there = elim spot_there [ inl same ↦ omega arith | inr there ↦ chain.holds.within spot there ]
-
 pub absent_from_alone : (next items : List ℕ) → Holds next items → (place : ℕ) → link next place ≡ place → has place items ≡ false
 absent_from_alone next items holds place itself =
     elim (has place items) as (λ test. has place items ≡ test → test ≡ false) [

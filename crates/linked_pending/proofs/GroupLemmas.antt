@@ -58,6 +58,7 @@ apart-with_node number node (first ∷ rest) apart absent =
       | false ↦ apart_replace first.nodes (nodes_of rest) (nodes_of (with_node number node rest)) apart (apart-with_node number node rest (apart_tail first.nodes (nodes_of rest) apart) absent_rest) disjoint
     ]
 
+-- each node's group afterwards, in the words of the contracts, for the proofs of callers
 pub group_of-with_node : (other number node : ℕ) (groups : List Group) → has_node node groups ≡ false → group_of other (with_node number node groups) ≡ cond (eqb other node) (Some number) (group_of other groups)
 group_of-with_node other number node [] absent = grind (arith, common_steps)
 group_of-with_node other number node (first ∷ rest) absent =

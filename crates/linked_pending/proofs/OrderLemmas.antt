@@ -2,9 +2,9 @@
 use Rattle.std.proofs.Common.{◌≡◌, ℕ, ◌+◌, ◌-◌, ◌<◌, ◌≤◌, true, false, None, cond, List, [], ◌∷◌, ◌++◌, eqb, refl, sym, ap, ◌∙◌, arith}
 use Rattle.std.proofs.lemmas.Grind.{common_steps}
 use Rattle.std.proofs.lemmas.Bool.{eqb-true}
-use Rattle.std.proofs.lemmas.Map.Views.{Contains-from_any, list_any-from_Contains, All-from_any}
+use Rattle.std.proofs.lemmas.Map.Views.{Contains-from_any, All-from_any}
 use Rattle.std.specs.Cmp.{nat_eq_equiv}
-use Rattle.std.specs.Prelude.{All, Contains, slice_get, Option, IsNone, ◌↔◌}
+use Rattle.std.specs.Prelude.{All, Contains, slice_get}
 use Rattle.linked_pending.specs.Listing.{has, AreApart, without, put_before, first_or, behind_or, next_in}
 use Rattle.linked_pending.specs.Order.{nodes_at, node_at}
 
@@ -48,10 +48,6 @@ apart-nodes_at (first ∷ rest) no_root apart =
     let above : first - 1 + 1 ≡ first = grind (arith, common_steps) in
     (sym (has-nodes_at (first - 1) rest no_root_rest) ∙ ap (λ place. has place rest) above ∙ apart.0, apart-nodes_at rest no_root_rest apart.1)
 
--- the test of a list, and std's word for it
-pub has_from_Contains : (item : ℕ) (items : List ℕ) → Contains items item → has item items ≡ true
-has_from_Contains item items there = list_any-from_Contains nat_eq_equiv item items there
-
 pub absent_from_not : (item : ℕ) (items : List ℕ) → (Contains items item → ⊥) → has item items ≡ false
 absent_from_not item items none =
     elim (has item items) as (λ test. has item items ≡ test → test ≡ false) [
@@ -70,11 +66,3 @@ absent_above node nodes room above within =
       | true ↦ λ there. let listed = Contains-from_any eqb-true node nodes there in let bound = within listed.0 node listed.1 in absurd (omega (arith, listed.2))
       | false ↦ λ absent. refl
     ] refl
-
-pub no_nodes : (nodes : List ℕ) (room : ℕ) → room ≡ 0 → All (λ node. node < room) nodes → nodes ≡ []
-no_nodes [] room no_room within = refl
-no_nodes (first ∷ rest) room no_room within = let bound = within 0 first (omega arith) in absurd (omega arith)
-
-pub none_at_start : (nodes : List ℕ) (result : Option ℕ) → result ≡ slice_get nodes 0 → IsNone result ↔ (nodes ≡ [])
-none_at_start [] result first = grind (arith, common_steps)
-none_at_start (node ∷ rest) result first = grind (arith, common_steps)

@@ -39,9 +39,6 @@ stored table chain groups are_flat room full apart members groups_in nodes_in =
     }
 
 module _ (table : List ℕ) (chain : Listing) (queue : IsQueue table chain) (node : ℕ) (node_in : node < length table) where
-  pub end_listed : (number : ℕ) → has (2 * number + 2) chain.items ≡ has_group number (parse chain.items)
-  end_listed number = ap (has (end_place number)) queue.is_flat ∙ has_end number (parse chain.items)
-
   pub node_listed : (other : ℕ) → has (2 * other + 1) chain.items ≡ has_node other (parse chain.items)
   node_listed other = ap (has (node_place other)) queue.is_flat ∙ has_place other (parse chain.items)
 

@@ -11,13 +11,16 @@ pub record Queues : Type 0 where
   pub waiting : List Group
   pub frozen : List Group
 
--- no group is empty, no list has two groups of one number, and no node stands twice in the two lists
+-- no group is empty or stands twice in a list, no node stands twice in the two lists, and all are below the room
 pub record IsOrderly (queues : Queues) : Type 0 where
   pub waiting_full : All (λ group. group.nodes ≢ []) queues.waiting
   pub frozen_full : All (λ group. group.nodes ≢ []) queues.frozen
   pub waiting_once : IsDistinct nat_eq (map (λ (group : Group). group.number) queues.waiting)
   pub frozen_once : IsDistinct nat_eq (map (λ (group : Group). group.number) queues.frozen)
   pub nodes_once : IsDistinct nat_eq (nodes_of queues.waiting ++ nodes_of queues.frozen)
+  pub waiting_within : All (λ group. group.number < queues.room) queues.waiting
+  pub frozen_within : All (λ group. group.number < queues.room) queues.frozen
+  pub nodes_within : All (λ node. node < queues.room) (nodes_of queues.waiting ++ nodes_of queues.frozen)
 
 -- the chain is a flat list of groups, by the table that gives each node's group
 pub record IsQueue (table : List ℕ) (chain : Listing) : Type 0 where

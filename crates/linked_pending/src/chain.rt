@@ -24,9 +24,9 @@ impl Model for Chain {
 
     ghost Value = { Listing };
 
-    ghost view = { λ c. record { room = length c.nexts.items; items = walk c.len (link c.nexts.items) 0 } };
+    ghost view = { λ chain. record { room = length chain.nexts.items; items = walk chain.len (link chain.nexts.items) 0 } };
 
-    ghost invariant = { λ c. IsChain c.nexts.items c.prevs.items c.len };
+    ghost invariant = { λ chain. IsChain chain.nexts.items chain.prevs.items chain.len };
 }
 
 impl Chain {

@@ -2,7 +2,8 @@
 //! nodes, those that wait and those that are frozen.
 //!
 //! Each call takes constant time, and after `reserve` none takes memory (`reserve` itself takes time by what it adds).
-//! The crate stands on std alone. It keeps numbers: what a node or a group means is its caller's.
+//! The crate stands on std, and on thiserror for its one error. It keeps numbers: what a node or a group means is its
+//! caller's, and no value is kept beside a node.
 #![tactic(auto)]
 
 mod chain;

@@ -10,8 +10,12 @@ use crate::fault::NoMemory;
 use std::alloc::Global;
 use std::marker::Model;
 
-/// A list of nodes in the order in which they were pushed. A node is a number, and stands at most once. The list has a
-/// room: the nodes that it can hold are those below it.
+/// A list of nodes. A node is a number, and stands at most once. The list has a room: the nodes that it can hold are
+/// those below it.
+///
+/// # Order
+///
+/// The nodes stand in the order in which they were pushed. One that was removed and is pushed again is the last.
 #[derive(Drop)]
 pub struct Order {
     chain: Chain,
@@ -24,9 +28,9 @@ impl Model for Order {
 
     ghost Value = { Listing };
 
-    ghost view = { λ o. record { room = o.chain.room - 1; items = nodes_at o.chain.items } };
+    ghost view = { λ order. record { room = order.chain.room - 1; items = nodes_at order.chain.items } };
 
-    ghost invariant = { λ o. IsOrder o.chain };
+    ghost invariant = { λ order. IsOrder order.chain };
 }
 
 impl Order {

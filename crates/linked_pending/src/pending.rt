@@ -1,6 +1,6 @@
 //! Groups of nodes that wait, and groups of nodes that are frozen.
 
-ghost use Rattle.std.specs.Prelude.{◌≡◌, ◌↔◌, ℕ, ◌<◌, ◌≤◌, ◌+◌, ◌*◌, ◌^◌, [], false, None, IsNone, IsErr, IsOk, OnErr, OnOk, length, max};
+ghost use Rattle.std.specs.Prelude.{◌≡◌, ◌↔◌, ℕ, ◌<◌, ◌≤◌, ◌+◌, ◌*◌, ◌^◌, [], false, None, Some, IfSome, IsNone, IsErr, IsOk, OnErr, OnOk, length, max};
 ghost use Rattle.linked_pending.specs.Links.{link};
 ghost use Rattle.linked_pending.specs.Group.{with_node, without_node, group_of, front_of};
 ghost use Rattle.linked_pending.specs.Layout.{has_node, opened, parse};
@@ -12,7 +12,8 @@ use std::alloc::Global;
 use std::marker::Model;
 use std::mem;
 
-/// The most nodes and groups that a table of their places can count.
+/// The greatest room: a node and a group have a place each, and with the chain's own there are as many places as a usize
+/// can count.
 const MOST: usize = usize::MAX / 2;
 
 /// Where a node stands: in which group, and which node it is.
@@ -25,8 +26,13 @@ pub struct Place {
 }
 
 /// Two lists of groups, one of groups that wait and one of groups that are frozen. A group is a number with the list of
-/// its nodes, in the order in which they joined; an empty group is in neither list. A node is a number, and stands at
-/// most once in the two lists. The lists have a room: their nodes and groups are numbers below it.
+/// its nodes; an empty group is in neither list, but one number may name a group in each. A node is a number, and stands
+/// at most once in the two lists. The lists have a room: their nodes and groups are numbers below it.
+///
+/// # Order
+///
+/// The groups stand in the order in which they began to wait, and the nodes of a group in the order in which they joined.
+/// `freeze` keeps both orders.
 #[derive(Drop)]
 pub struct Pending {
     waiting: Chain,
@@ -41,9 +47,9 @@ impl Model for Pending {
 
     ghost Value = { Queues };
 
-    ghost view = { λ p. record { room = length p.groups.items; waiting = parse p.waiting.items; frozen = parse p.frozen.items } };
+    ghost view = { λ lists. record { room = length lists.groups.items; waiting = parse lists.waiting.items; frozen = parse lists.frozen.items } };
 
-    ghost invariant = { λ p. AreQueues p.groups.items p.waiting p.frozen };
+    ghost invariant = { λ lists. AreQueues lists.groups.items lists.waiting lists.frozen };
 }
 
 impl Pending {
@@ -62,6 +68,7 @@ impl Pending {
     pub fn front(&self) -> Option<Place>
         ensures first { result ≡ front_of self.now.frozen }
         ensures none { IsNone result ↔ (self.now.frozen ≡ []) }
+        ensures member { IfSome result (λ place. group_of place.node self.now.frozen ≡ Some place.group) }
 
         // What holds of each pair of lists.
         ensures orderly { IsOrderly self.now }

@@ -10,8 +10,8 @@ use std::io::{ErrorKind, Stdout};
 /// A writer as a sink. A write that a signal interrupts is made again; any other error, and a write
 /// that takes no byte, counts.
 ///
-/// It tells no content. Where the writer itself tells what it holds, `write` says that the bytes went
-/// through as they are. It keeps no byte back: what `write` took is with the writer.
+/// It tells no content. Where the writer itself tells what it holds, `write` says that the bytes
+/// went through as they are. It keeps no byte back: what `write` took is with the writer.
 #[derive(Drop)]
 pub struct WriterSink<W> {
     writer: W,

@@ -37,6 +37,7 @@ pub fn first_line(bytes: &[u8]) -> Option<(Line<'_>, &[u8])>
         }
         rest = after;
     }
+    // What no line feed ends is no line yet.
     None
 }
 

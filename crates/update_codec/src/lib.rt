@@ -5,6 +5,8 @@
 //! here takes memory, and no message is sent.
 #![tactic(auto)]
 
+#[cfg(test)]
+mod tests;
 mod writing;
 
 pub use writing::{open_gone, open_here, put_end_of_rib, put_nlri};

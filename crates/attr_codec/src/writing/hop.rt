@@ -6,12 +6,11 @@ ghost use Rattle.attr_codec.specs.Buffer.{HasRoom, Appended};
 ghost use Rattle.attr_codec.specs.Groups.{raws_text};
 
 use super::head::{put_head, put_plain};
-use crate::codes::{IPV6_HOP_LEN, IPV6_UNICAST, Kind, MP_REACH_NLRI, NEXT_HOP, RESERVED};
+use crate::codes::{
+    IPV6_HOP_LEN, IPV6_UNICAST, Kind, MP_REACH_NLRI, NEXT_HOP, REACH_LEN, RESERVED,
+};
 use crate::message::Message;
 use route_values::Addr;
-
-/// The length of an MP_REACH_NLRI without prefixes: family, length of the next hop, next hop and a reserved byte.
-const REACH_LEN: usize = 21;
 
 /// Puts NEXT_HOP, which goes with IPv4 alone.
 pub fn put_next_hop(out: &mut Message, hop: Addr)
@@ -31,7 +30,7 @@ pub fn put_reach_head(out: &mut Message, hop: Addr)
     if let Addr::V6(number) = hop {
         put_head(out, Kind::Optional, MP_REACH_NLRI, REACH_LEN);
         out.append(&IPV6_UNICAST);
-        out.append(&[IPV6_HOP_LEN]);
+        out.append(&[IPV6_HOP_LEN as u8]);
         out.append(&number.to_be_bytes());
         out.append(&[RESERVED]);
     }

@@ -4,8 +4,10 @@ ghost use Rattle.update_grammar.specs.Values.{exts_text};
 ghost use Rattle.update_grammar.specs.Written.{attributes_text};
 ghost use Rattle.attr_codec.specs.Sizes.{IsShort, attr_size, size_if, list_size, segment_size, path_size, fixed_size, attributes_size, hop_size};
 
-use super::lists::{EXT_LEN, LARGE_LEN, NUMBER_LEN};
-use crate::codes::SHORT_MAX;
+use crate::codes::{
+    AGGREGATOR_LEN, EXT_LEN, IPV6_HOP_LEN, LARGE_LEN, NUMBER_LEN, REACH_FIXED, SEGMENT_HEAD,
+    SHORT_MAX,
+};
 use route_values::{Addr, AsPath, Family, Segment, WireAttrs};
 
 /// Flags, code and a length of one byte.
@@ -16,9 +18,6 @@ const LONG_HEAD: usize = 4;
 
 /// ORIGIN, whose value is one byte.
 const ORIGIN_LEN: usize = SHORT_HEAD + 1;
-
-/// What an MP_REACH_NLRI has beside its next hop and its prefixes: family, a length and a reserved byte.
-const REACH_FIXED: usize = 5;
 
 /// The length of the attributes of an announcement, without prefixes of IPv6, in bytes: 2^64 - 1 stands for any
 /// greater length. `attributes_size` says it by parts.
@@ -52,7 +51,7 @@ fn segment_len(segment: &Segment) -> usize
         .numbers
         .len()
         .saturating_mul(NUMBER_LEN)
-        .saturating_add(2)
+        .saturating_add(SEGMENT_HEAD)
 }
 
 // The attributes whose values have a fixed length.
@@ -64,7 +63,7 @@ fn fixed_len(attrs: &WireAttrs, family: Family) -> usize
         + len_if(attrs.med.is_some(), NUMBER_LEN)
         + len_if(attrs.local_pref.is_some(), NUMBER_LEN)
         + len_if(attrs.atomic, 0)
-        + len_if(attrs.aggregator.is_some(), 2 * NUMBER_LEN)
+        + len_if(attrs.aggregator.is_some(), AGGREGATOR_LEN)
         + len_if(attrs.originator.is_some(), NUMBER_LEN)
 }
 
@@ -73,8 +72,8 @@ fn hop_len(family: Family, hop: Addr) -> usize
     ensures { result ≡ hop_size family hop }
 {
     let addr = match hop {
-        Addr::V4(_) => 4,
-        Addr::V6(_) => 16,
+        Addr::V4(_) => NUMBER_LEN,
+        Addr::V6(_) => IPV6_HOP_LEN,
     };
     match family {
         Family::Ipv4 => SHORT_HEAD + addr,
@@ -119,5 +118,9 @@ fn list_len(count: usize, width: usize) -> usize
 fn attr_len(len: usize) -> usize
     ensures { result ≡ min (attr_size len) (2 ^ 64 - 1) }
 {
-    len.saturating_add(if len > SHORT_MAX { LONG_HEAD } else { SHORT_HEAD })
+    len.saturating_add(if len > SHORT_MAX {
+        LONG_HEAD
+    } else {
+        SHORT_HEAD
+    })
 }

@@ -1,5 +1,6 @@
 //! Attributes that are lists of values of one length.
 ghost use Rattle.std.specs.Prelude.{◌≤◌, length};
+ghost use Rattle.update_grammar.specs.Attributes.{optional_transitive};
 ghost use Rattle.update_grammar.specs.Values.{numbers_text, exts_text, large_text, larges_text};
 ghost use Rattle.update_grammar.specs.Written.{raw_some};
 ghost use Rattle.attr_codec.specs.Buffer.{HasRoom, Appended};
@@ -7,14 +8,9 @@ ghost use Rattle.attr_codec.specs.Groups.{raws_text};
 ghost use Rattle.attr_codec.specs.Kind.{flags_of};
 
 use super::head::put_head;
-use crate::codes::{EXTENDED_COMMUNITIES, Kind, LARGE_COMMUNITY};
+use crate::codes::{EXT_LEN, EXTENDED_COMMUNITIES, Kind, LARGE_COMMUNITY, LARGE_LEN, NUMBER_LEN};
 use crate::message::Message;
 use route_values::Large;
-
-/// How many bytes a number, an extended community and a large community have (RFC 1997; RFC 4360; RFC 8092).
-pub const NUMBER_LEN: usize = 4;
-pub const EXT_LEN: usize = 8;
-pub const LARGE_LEN: usize = 12;
 
 /// Puts a list of numbers, unless it is empty.
 pub fn put_u32s(out: &mut Message, kind: Kind, code: u8, numbers: &[u32])
@@ -32,26 +28,36 @@ pub fn put_u32s(out: &mut Message, kind: Kind, code: u8, numbers: &[u32])
 /// Puts EXTENDED COMMUNITIES, unless there is none.
 pub fn put_exts(out: &mut Message, exts: &[[u8; 8]])
     requires room { out.old.room ≤ 65535 }
-    requires fits { HasRoom out.old (length (raws_text (raw_some exts_text 192 16 exts.now))) }
-    ensures { Appended out.old out.new (raws_text (raw_some exts_text 192 16 exts.now)) }
+    requires fits { HasRoom out.old (length (raws_text (raw_some exts_text optional_transitive 16 exts.now))) }
+    ensures { Appended out.old out.new (raws_text (raw_some exts_text optional_transitive 16 exts.now)) }
 {
     if exts.is_empty() {
         return;
     }
-    put_head(out, Kind::OptionalTransitive, EXTENDED_COMMUNITIES, exts.len() * EXT_LEN);
+    put_head(
+        out,
+        Kind::OptionalTransitive,
+        EXTENDED_COMMUNITIES,
+        exts.len() * EXT_LEN,
+    );
     put_ext_values(out, exts);
 }
 
 /// Puts LARGE_COMMUNITY, unless there is none.
 pub fn put_larges(out: &mut Message, larges: &[Large])
     requires room { out.old.room ≤ 65535 }
-    requires fits { HasRoom out.old (length (raws_text (raw_some larges_text 192 32 larges.now))) }
-    ensures { Appended out.old out.new (raws_text (raw_some larges_text 192 32 larges.now)) }
+    requires fits { HasRoom out.old (length (raws_text (raw_some larges_text optional_transitive 32 larges.now))) }
+    ensures { Appended out.old out.new (raws_text (raw_some larges_text optional_transitive 32 larges.now)) }
 {
     if larges.is_empty() {
         return;
     }
-    put_head(out, Kind::OptionalTransitive, LARGE_COMMUNITY, larges.len() * LARGE_LEN);
+    put_head(
+        out,
+        Kind::OptionalTransitive,
+        LARGE_COMMUNITY,
+        larges.len() * LARGE_LEN,
+    );
     put_large_values(out, larges);
 }
 

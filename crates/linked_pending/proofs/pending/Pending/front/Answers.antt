@@ -6,7 +6,7 @@ use Rattle.linked_pending.specs.Listing.{first_or}
 use Rattle.linked_pending.specs.Links.{link}
 use Rattle.linked_pending.specs.Group.{front_of}
 use Rattle.linked_pending.specs.Pending.{Queues, IsOrderly}
-use Rattle.linked_pending.proofs.FrontLemmas.{empty_without_room, front_shown, orderly}
+use Rattle.linked_pending.proofs.FrontLemmas.{empty_without_room, front_member, front_shown, orderly}
 use Rattle.linked_pending.proofs.pending.Pending.front.Goals as goal
 
 pub returns-then-room-eq0-clause-first : goal.returns-then-room-eq0-clause-first
@@ -21,10 +21,10 @@ returns-then-room-eq0-clause-none c =
     (λ none. now_empty, λ empty. refl)
 
 pub returns-then-room-eq0-clause-orderly : goal.returns-then-room-eq0-clause-orderly
-returns-then-room-eq0-clause-orderly c = subst IsOrderly c.self.view_is (orderly _ _ _ _ c.self.invariant)
+returns-then-room-eq0-clause-orderly c = subst IsOrderly c.self.view_is (orderly _ _ _ c.self.invariant)
 
 pub returns-then-first-eq0-clause-orderly : goal.returns-then-first-eq0-clause-orderly
-returns-then-first-eq0-clause-orderly c = subst IsOrderly c.self.view_is (orderly _ _ _ _ c.self.invariant)
+returns-then-first-eq0-clause-orderly c = subst IsOrderly c.self.view_is (orderly _ _ _ c.self.invariant)
 
 pub index-requires : goal.index-requires
 index-requires c =
@@ -45,4 +45,8 @@ returns-clause-first c =
     ∙ ap (λ (queues : Queues). front_of queues.frozen) c.self.view_is
 
 pub returns-clause-orderly : goal.returns-clause-orderly
-returns-clause-orderly c = subst IsOrderly c.self.view_is (orderly _ _ _ _ c.self.invariant)
+returns-clause-orderly c = subst IsOrderly c.self.view_is (orderly _ _ _ c.self.invariant)
+
+pub returns-clause-member : goal.returns-clause-member
+returns-clause-member c =
+    front_member c.args.self.now.frozen (record { group = c.index.result.now; node = c.after-first.result / 2 }) (returns-clause-first c)

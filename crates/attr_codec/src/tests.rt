@@ -1,0 +1,104 @@
+ghost use Rattle.std.specs.Prelude.{◌≡◌, ◌<◌, ◌≤◌, All, IfOk, length};
+ghost use Rattle.route_values.specs.declared.addr.Family.TheVariants.{Ipv4};
+ghost use Rattle.route_values.specs.Addr.{family_of};
+ghost use Rattle.attr_codec.specs.Sizes.{IsShort};
+
+use super::*;
+use route_values::{
+    Addr, AsPath, Exts, Family, Items, Larges, NoMemory, Origin, Segment, U32s, WireAttrs,
+};
+use std::alloc::Global;
+use std::test::Fail;
+
+// One sequence of so many AS numbers 65001 to the next hop 192.0.2.1.
+fn of_path(alloc: Global, count: usize) -> Result<WireAttrs, NoMemory>
+    requires some { 0 < count }
+    requires short { count ≤ 255 }
+    ensures hop { IfOk result (λ w. family_of w.hop ≡ Ipv4) }
+    ensures short { IfOk result (λ w. All IsShort w.path) }
+{
+    let only = Segment {
+        set: false,
+        numbers: Items::from_vec(vec![in alloc; 65001; count]?),
+    };
+    Ok(WireAttrs {
+        hop: Addr::V4(0xC000_0201),
+        origin: Origin::Igp,
+        path: AsPath::from_segments(vec![in alloc; only]?),
+        med: None,
+        local_pref: None,
+        atomic: false,
+        aggregator: None,
+        communities: U32s::new(alloc),
+        originator: None,
+        clusters: U32s::new(alloc),
+        extended: Exts::new(alloc),
+        large: Larges::new(alloc),
+    })
+}
+
+// What is written where so many bytes fit, or None where it is refused.
+fn written(attrs: &WireAttrs, room: usize) -> Option<Message>
+    requires hop { family_of attrs.now.hop ≡ Ipv4 }
+    requires short { All IsShort attrs.now.path }
+    requires room { room ≤ 65535 }
+{
+    let mut out = Message::new(room);
+    if put_attrs(&mut out, attrs, Family::Ipv4) {
+        Some(out)
+    } else {
+        None
+    }
+}
+
+const SHORT: &[u8] = &[
+    0x40, 0x01, 0x01, 0x00, // ORIGIN IGP
+    0x40, 0x02, 0x06, // AS_PATH
+    0x02, 0x01, 0x00, 0x00, 0xFD, 0xE9, // sequence 65001
+    0x40, 0x03, 0x04, 0xC0, 0x00, 0x02, 0x01, // NEXT_HOP 192.0.2.1
+];
+
+#[test]
+fn attributes_that_fit_exactly_are_written(rt: HostRuntime) -> Result<(), Fail> {
+    let attrs = of_path(rt.alloc(), 1)?;
+    assert_eq!(rt; attrs_len(&attrs, Family::Ipv4), 20);
+    let out = written(&attrs, 20).ok_or("room for 20 bytes")?;
+    assert_eq!(rt; out.bytes(), SHORT);
+    assert!(rt; written(&attrs, 19).is_none());
+    Ok(())
+}
+
+#[test]
+fn a_value_past_255_bytes_has_a_length_of_two(rt: HostRuntime) -> Result<(), Fail> {
+    let short = written(&of_path(rt.alloc(), 63)?, 4096).ok_or("room")?;
+    assert_eq!(rt;
+        short.bytes().get(4..9),
+        Some([0x40, 0x02, 0xFE, 0x02, 0x3F].as_slice())
+    );
+    let long = written(&of_path(rt.alloc(), 64)?, 4096).ok_or("room")?;
+    assert_eq!(rt;
+        long.bytes().get(4..10),
+        Some([0x50, 0x02, 0x01, 0x02, 0x02, 0x40].as_slice())
+    );
+    Ok(())
+}
+
+const SEALED: &[u8] = &[
+    0x00, 0x00, 0x00, 0x00, 0x00, 0x00, 0x00, 0x00, // marker
+    0x00, 0x00, 0x00, 0x00, 0x00, 0x00, 0x00, 0x00, //
+    0x00, 0x19, // length
+    0x00, // type
+    0x80, 0x0F, 0x03, 0x00, 0x02, 0x01, // MP_UNREACH_NLRI of IPv6 unicast
+];
+
+#[test]
+fn a_buffer_is_filled_and_sealed_and_emptied(rt: HostRuntime) {
+    let mut out = Message::new(25);
+    out.append(&[0; 19]);
+    append_unreach(&mut out);
+    out.seal();
+    assert_eq!(rt; out.bytes(), SEALED);
+    assert_eq!(rt; out.spare(), 0);
+    out.clear();
+    assert_eq!(rt; out.spare(), 25);
+}

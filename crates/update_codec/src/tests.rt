@@ -1,0 +1,372 @@
+ghost use Rattle.std.specs.Prelude.{◌≡◌, ◌<◌, ◌≤◌, All, IfOk, length};
+ghost use Rattle.route_values.specs.declared.addr.Family.TheVariants.{Ipv4};
+ghost use Rattle.route_values.specs.Addr.{family_of};
+ghost use Rattle.route_values.specs.Path.{AllFilled};
+ghost use Rattle.attr_codec.specs.Sizes.{IsShort};
+
+use super::*;
+use attr_codec::Message;
+use route_values::{
+    Addr, Aggregator, AsPath, Caps, Exts, Family, Items, Key, Large, Larges, NoMemory, Origin,
+    Prefix, Segment, U32s, WireAttrs,
+};
+use std::alloc::Global;
+use std::test::Fail;
+
+const IPV4_HOP: Addr = Addr::V4(0xC000_0201);
+
+const IPV6_HOP: Addr = Addr::V6(0x2001_0DB8_0000_0000_0000_0000_0000_0009);
+
+const NO_PATHS: Caps = Caps {
+    ipv4: true,
+    ipv6: true,
+    ipv4_path: false,
+    ipv6_path: false,
+    extended: false,
+};
+
+const PATHS: Caps = Caps {
+    ipv4: true,
+    ipv6: true,
+    ipv4_path: true,
+    ipv6_path: true,
+    extended: false,
+};
+
+const ONE_PREFIX: &[u8] = &[
+    0xFF, 0xFF, 0xFF, 0xFF, 0xFF, 0xFF, 0xFF, 0xFF, // marker
+    0xFF, 0xFF, 0xFF, 0xFF, 0xFF, 0xFF, 0xFF, 0xFF, //
+    0x00, 0x2F, // length
+    0x02, // UPDATE
+    0x00, 0x00, // no withdrawn prefixes
+    0x00, 0x14, // length of the attributes
+    0x40, 0x01, 0x01, 0x00, // ORIGIN IGP
+    0x40, 0x02, 0x06, 0x02, 0x01, 0x00, 0x00, 0xFD, 0xE9, // AS_PATH 65001
+    0x40, 0x03, 0x04, 0xC0, 0x00, 0x02, 0x01, // NEXT_HOP 192.0.2.1
+    0x18, 0x0A, 0x00, 0x00, // 10.0.0.0/24
+];
+
+const THREE_IDENTIFIED: &[u8] = &[
+    0xFF, 0xFF, 0xFF, 0xFF, 0xFF, 0xFF, 0xFF, 0xFF, // marker
+    0xFF, 0xFF, 0xFF, 0xFF, 0xFF, 0xFF, 0xFF, 0xFF, //
+    0x00, 0x42, // length
+    0x02, // UPDATE
+    0x00, 0x00, // no withdrawn prefixes
+    0x00, 0x14, // length of the attributes
+    0x40, 0x01, 0x01, 0x00, // ORIGIN IGP
+    0x40, 0x02, 0x06, 0x02, 0x01, 0x00, 0x00, 0xFD, 0xE9, // AS_PATH 65001
+    0x40, 0x03, 0x04, 0xC0, 0x00, 0x02, 0x01, // NEXT_HOP 192.0.2.1
+    0x00, 0x00, 0x00, 0x07, // identifier 7
+    0x20, 0xC6, 0x33, 0x64, 0x07, // 198.51.100.7/32
+    0x00, 0x00, 0x00, 0x00, // identifier 0
+    0x00, // 0.0.0.0/0
+    0x01, 0x02, 0x03, 0x04, // identifier 16909060
+    0x19, 0xCB, 0x00, 0x71, 0x80, // 203.0.113.128/25
+];
+
+const IPV4_MARKER: &[u8] = &[
+    0xFF, 0xFF, 0xFF, 0xFF, 0xFF, 0xFF, 0xFF, 0xFF, // marker
+    0xFF, 0xFF, 0xFF, 0xFF, 0xFF, 0xFF, 0xFF, 0xFF, //
+    0x00, 0x17, // length
+    0x02, // UPDATE
+    0x00, 0x00, // no withdrawn prefixes
+    0x00, 0x00, // no attributes
+];
+
+const IPV6_MARKER: &[u8] = &[
+    0xFF, 0xFF, 0xFF, 0xFF, 0xFF, 0xFF, 0xFF, 0xFF, // marker
+    0xFF, 0xFF, 0xFF, 0xFF, 0xFF, 0xFF, 0xFF, 0xFF, //
+    0x00, 0x1D, // length
+    0x02, // UPDATE
+    0x00, 0x00, // no withdrawn prefixes
+    0x00, 0x06, // length of the attributes
+    0x80, 0x0F, 0x03, 0x00, 0x02, 0x01, // MP_UNREACH_NLRI of IPv6 unicast
+];
+
+const FULL_IPV4: &[u8] = &[
+    0xFF, 0xFF, 0xFF, 0xFF, 0xFF, 0xFF, 0xFF, 0xFF, // marker
+    0xFF, 0xFF, 0xFF, 0xFF, 0xFF, 0xFF, 0xFF, 0xFF, //
+    0x00, 0x84, // length
+    0x02, // UPDATE
+    0x00, 0x00, // no withdrawn prefixes
+    0x00, 0x6D, // length of the attributes
+    0x40, 0x01, 0x01, 0x02, // ORIGIN INCOMPLETE
+    0x40, 0x02, 0x10, // AS_PATH
+    0x02, 0x01, 0x00, 0x00, 0xFD, 0xE9, // sequence 65001
+    0x01, 0x02, 0x00, 0x00, 0xFD, 0xE7, 0x00, 0x00, 0xFD, 0xEA, // set of 64999 and 65002
+    0x40, 0x03, 0x04, 0xC0, 0x00, 0x02, 0x01, // NEXT_HOP 192.0.2.1
+    0x80, 0x04, 0x04, 0x00, 0x00, 0x00, 0x32, // MULTI_EXIT_DISC 50
+    0x40, 0x05, 0x04, 0x00, 0x00, 0x00, 0xC8, // LOCAL_PREF 200
+    0x40, 0x06, 0x00, // ATOMIC_AGGREGATE
+    0xC0, 0x07, 0x08, 0x00, 0x00, 0xFD, 0xE9, 0xC0, 0x00, 0x02, 0x09, // AGGREGATOR 65001, 192.0.2.9
+    0xC0, 0x08, 0x08, 0xFD, 0xE9, 0x00, 0x01, 0xFF, 0xFF, 0xFF, 0x01, // COMMUNITIES 65001:1, NO_EXPORT
+    0x80, 0x09, 0x04, 0xC0, 0x00, 0x02, 0x03, // ORIGINATOR_ID 192.0.2.3
+    0x80, 0x0A, 0x04, 0xC0, 0x00, 0x02, 0x04, // CLUSTER_LIST 192.0.2.4
+    0xC0, 0x10, 0x08, 0x00, 0x02, 0xFD, 0xE9, 0x00, 0x00, 0x00, 0x64, // EXTENDED COMMUNITIES target 65001:100
+    0xC0, 0x20, 0x0C, // LARGE_COMMUNITY
+    0x00, 0x00, 0xFD, 0xE9, 0x00, 0x00, 0x00, 0x01, 0x00, 0x00, 0x00, 0x02, // 65001:1:2
+];
+
+const FULL_IPV6: &[u8] = &[
+    0xFF, 0xFF, 0xFF, 0xFF, 0xFF, 0xFF, 0xFF, 0xFF, // marker
+    0xFF, 0xFF, 0xFF, 0xFF, 0xFF, 0xFF, 0xFF, 0xFF, //
+    0x00, 0x95, // length
+    0x02, // UPDATE
+    0x00, 0x00, // no withdrawn prefixes
+    0x00, 0x7E, // length of the attributes
+    0x40, 0x01, 0x01, 0x02, // ORIGIN INCOMPLETE
+    0x40, 0x02, 0x10, // AS_PATH
+    0x02, 0x01, 0x00, 0x00, 0xFD, 0xE9, // sequence 65001
+    0x01, 0x02, 0x00, 0x00, 0xFD, 0xE7, 0x00, 0x00, 0xFD, 0xEA, // set of 64999 and 65002
+    0x80, 0x04, 0x04, 0x00, 0x00, 0x00, 0x32, // MULTI_EXIT_DISC 50
+    0x40, 0x05, 0x04, 0x00, 0x00, 0x00, 0xC8, // LOCAL_PREF 200
+    0x40, 0x06, 0x00, // ATOMIC_AGGREGATE
+    0xC0, 0x07, 0x08, 0x00, 0x00, 0xFD, 0xE9, 0xC0, 0x00, 0x02, 0x09, // AGGREGATOR 65001, 192.0.2.9
+    0xC0, 0x08, 0x08, 0xFD, 0xE9, 0x00, 0x01, 0xFF, 0xFF, 0xFF, 0x01, // COMMUNITIES 65001:1, NO_EXPORT
+    0x80, 0x09, 0x04, 0xC0, 0x00, 0x02, 0x03, // ORIGINATOR_ID 192.0.2.3
+    0x80, 0x0A, 0x04, 0xC0, 0x00, 0x02, 0x04, // CLUSTER_LIST 192.0.2.4
+    0x80, 0x0E, 0x15, // MP_REACH_NLRI
+    0x00, 0x02, 0x01, // IPv6 unicast
+    0x10, // length of the next hop
+    0x20, 0x01, 0x0D, 0xB8, 0x00, 0x00, 0x00, 0x00, 0x00, 0x00, 0x00, 0x00, 0x00, 0x00, 0x00, 0x09, // 2001:db8::9
+    0x00, // reserved
+    0xC0, 0x10, 0x08, 0x00, 0x02, 0xFD, 0xE9, 0x00, 0x00, 0x00, 0x64, // EXTENDED COMMUNITIES target 65001:100
+    0xC0, 0x20, 0x0C, // LARGE_COMMUNITY
+    0x00, 0x00, 0xFD, 0xE9, 0x00, 0x00, 0x00, 0x01, 0x00, 0x00, 0x00, 0x02, // 65001:1:2
+];
+
+fn list(alloc: Global, numbers: &[u32]) -> Result<U32s, NoMemory>
+    ensures { IfOk result (λ list. list ≡ numbers.now) }
+{
+    Ok(Items::from_vec(Vec::from_slice(alloc, numbers)?))
+}
+
+fn sequence(alloc: Global, numbers: &[u32]) -> Result<AsPath, NoMemory>
+    requires filled { 0 < length numbers.now }
+    requires short { length numbers.now ≤ 255 }
+    ensures { IfOk result (λ path. All IsShort path) }
+{
+    let only = Segment {
+        set: false,
+        numbers: list(alloc, numbers)?,
+    };
+    Ok(AsPath::from_segments(vec![in alloc; only]?))
+}
+
+fn sequence_and_set(alloc: Global) -> Result<AsPath, NoMemory>
+    ensures { IfOk result (λ path. All IsShort path) }
+{
+    let first = Segment {
+        set: false,
+        numbers: list(alloc, &[65001])?,
+    };
+    let second = Segment {
+        set: true,
+        numbers: list(alloc, &[64999, 65002])?,
+    };
+    Ok(AsPath::from_segments(vec![in alloc; first, second]?))
+}
+
+fn bare(alloc: Global, hop: Addr, path: AsPath) -> WireAttrs
+    ensures hop { result.hop ≡ hop }
+    ensures path { result.path ≡ path }
+{
+    WireAttrs {
+        hop,
+        origin: Origin::Igp,
+        path,
+        med: None,
+        local_pref: None,
+        atomic: false,
+        aggregator: None,
+        communities: U32s::new(alloc),
+        originator: None,
+        clusters: U32s::new(alloc),
+        extended: Exts::new(alloc),
+        large: Larges::new(alloc),
+    }
+}
+
+fn one_as(alloc: Global) -> Result<WireAttrs, NoMemory>
+    ensures hop { IfOk result (λ w. family_of w.hop ≡ Ipv4) }
+    ensures short { IfOk result (λ w. All IsShort w.path) }
+{
+    Ok(bare(alloc, IPV4_HOP, sequence(alloc, &[65001])?))
+}
+
+fn full(alloc: Global, hop: Addr) -> Result<WireAttrs, NoMemory>
+    ensures hop { IfOk result (λ w. w.hop ≡ hop) }
+    ensures short { IfOk result (λ w. All IsShort w.path) }
+{
+    let extended = [0x00, 0x02, 0xFD, 0xE9, 0x00, 0x00, 0x00, 0x64];
+    let large = Large {
+        global: 65001,
+        first: 1,
+        second: 2,
+    };
+    Ok(WireAttrs {
+        hop,
+        origin: Origin::Incomplete,
+        path: sequence_and_set(alloc)?,
+        med: Some(50),
+        local_pref: Some(200),
+        atomic: true,
+        aggregator: Some(Aggregator {
+            asn: 65001,
+            addr: 0xC000_0209,
+        }),
+        communities: list(alloc, &[0xFDE9_0001, 0xFFFF_FF01])?,
+        originator: Some(0xC000_0203),
+        clusters: list(alloc, &[0xC000_0204])?,
+        extended: Items::from_vec(vec![in alloc; extended]?),
+        large: Items::from_vec(vec![in alloc; large]?),
+    })
+}
+
+// All limits of a route's attributes at once, where each AS number has a segment of its own.
+fn longest(alloc: Global, hop: Addr) -> Result<WireAttrs, NoMemory>
+    ensures hop { IfOk result (λ w. w.hop ≡ hop) }
+    ensures short { IfOk result (λ w. All IsShort w.path) }
+{
+    let large = Large {
+        global: 1,
+        first: 1,
+        second: 1,
+    };
+    Ok(WireAttrs {
+        hop,
+        origin: Origin::Igp,
+        path: singles(alloc, 255)?,
+        med: Some(1),
+        local_pref: Some(1),
+        atomic: true,
+        aggregator: Some(Aggregator { asn: 1, addr: 1 }),
+        communities: Items::from_vec(vec![in alloc; 1; 200]?),
+        originator: Some(1),
+        clusters: Items::from_vec(vec![in alloc; 1; 32]?),
+        extended: Items::from_vec(vec![in alloc; [1; 8]; 64]?),
+        large: Items::from_vec(vec![in alloc; large; 64]?),
+    })
+}
+
+fn singles(alloc: Global, count: usize) -> Result<AsPath, NoMemory>
+    ensures { IfOk result (λ path. All IsShort path) }
+{
+    let mut segments = Vec::new(alloc);
+    for _ in 0..count {
+        push_single(alloc, &mut segments)?;
+    }
+    Ok(AsPath::from_segments(segments))
+}
+
+fn push_single(alloc: Global, segments: &mut Vec<Segment>) -> Result<(), NoMemory>
+    requires short { All IsShort segments.old.items }
+    requires filled { AllFilled segments.old.items }
+    ensures short { All IsShort segments.new.items }
+    ensures filled { AllFilled segments.new.items }
+{
+    let numbers = list(alloc, &[1])?;
+    segments.push(Segment {
+        set: false,
+        numbers,
+    })?;
+    Ok(())
+}
+
+fn with_communities(alloc: Global, count: usize) -> Result<WireAttrs, NoMemory>
+    ensures hop { IfOk result (λ w. family_of w.hop ≡ Ipv4) }
+    ensures short { IfOk result (λ w. All IsShort w.path) }
+{
+    let mut attrs = one_as(alloc)?;
+    attrs.communities = Items::from_vec(vec![in alloc; 1; count]?);
+    Ok(attrs)
+}
+
+// A message that is opened in a room of 4,096 bytes; it is empty where the attributes don't fit.
+fn opened(attrs: &WireAttrs, family: Family) -> Message
+    requires hop { family_of attrs.now.hop ≡ family }
+    requires short { All IsShort attrs.now.path }
+{
+    let mut out = Message::new(4096);
+    let _ = open_here(&mut out, attrs, family);
+    out
+}
+
+// Puts a prefix of IPv4 where the message is open.
+fn put_ipv4(out: &mut Message, caps: &Caps, prefix: Prefix, id: u32) -> bool {
+    let key = Key { prefix, id };
+    key.family() == Family::Ipv4 && out.bytes().len() >= 23 && put_nlri(out, caps, &key)
+}
+
+#[test]
+fn an_announcement_has_the_fields_of_an_update(rt: HostRuntime) -> Result<(), Fail> {
+    let prefix = Prefix::new(Addr::V4(0x0A00_0000), 24).ok_or("a prefix")?;
+    let mut out = opened(&one_as(rt.alloc())?, Family::Ipv4);
+    assert!(rt; put_ipv4(&mut out, &NO_PATHS, prefix, 0));
+    assert_eq!(rt; out.bytes(), ONE_PREFIX);
+    Ok(())
+}
+
+#[test]
+fn identifiers_stand_before_prefixes_where_the_session_has_them(
+    rt: HostRuntime,
+) -> Result<(), Fail> {
+    let whole = Prefix::new(Addr::V4(0xC633_6407), 32).ok_or("a prefix")?;
+    let none = Prefix::new(Addr::V4(0), 0).ok_or("a prefix")?;
+    let odd = Prefix::new(Addr::V4(0xCB00_7180), 25).ok_or("a prefix")?;
+    let mut out = opened(&one_as(rt.alloc())?, Family::Ipv4);
+    for (prefix, id) in [(whole, 7), (none, 0), (odd, 0x0102_0304)] {
+        assert!(rt; put_ipv4(&mut out, &PATHS, prefix, id), "identifier {id}");
+    }
+    assert_eq!(rt; out.bytes(), THREE_IDENTIFIED);
+    Ok(())
+}
+
+#[test]
+fn a_marker_and_an_opened_withdrawal_have_no_prefix(rt: HostRuntime) {
+    for (family, wanted) in [(Family::Ipv4, IPV4_MARKER), (Family::Ipv6, IPV6_MARKER)] {
+        let mut marker = Message::new(4096);
+        assert!(rt; put_end_of_rib(&mut marker, family));
+        assert_eq!(rt; marker.bytes(), wanted, "the marker of {family:?}");
+        let mut withdrawal = Message::new(4096);
+        open_gone(&mut withdrawal, family);
+        assert_eq!(rt; withdrawal.bytes(), wanted, "a withdrawal of {family:?}");
+    }
+}
+
+#[test]
+fn all_attributes_stand_in_the_order_of_their_codes(rt: HostRuntime) -> Result<(), Fail> {
+    let ipv4 = opened(&full(rt.alloc(), IPV4_HOP)?, Family::Ipv4);
+    assert_eq!(rt; ipv4.bytes(), FULL_IPV4);
+    let ipv6 = opened(&full(rt.alloc(), IPV6_HOP)?, Family::Ipv6);
+    assert_eq!(rt; ipv6.bytes(), FULL_IPV6);
+    Ok(())
+}
+
+// A path identifier, a bit count and the 16 bytes of a whole address.
+const IPV6_PREFIX: usize = 4 + 1 + 16;
+
+#[test]
+fn attributes_at_all_limits_leave_room_for_a_prefix(rt: HostRuntime) -> Result<(), Fail> {
+    let prefix = Prefix::new(Addr::V4(0x0A00_0001), 32).ok_or("a prefix")?;
+    let mut ipv4 = opened(&longest(rt.alloc(), IPV4_HOP)?, Family::Ipv4);
+    assert!(rt; put_ipv4(&mut ipv4, &PATHS, prefix, 1));
+    assert_eq!(rt; ipv4.bytes().len(), 3835);
+    let ipv6 = opened(&longest(rt.alloc(), IPV6_HOP)?, Family::Ipv6);
+    assert_eq!(rt; ipv6.bytes().len(), 3864 - IPV6_PREFIX);
+    Ok(())
+}
+
+#[test]
+fn what_does_not_fit_leaves_the_buffer(rt: HostRuntime) -> Result<(), Fail> {
+    let none = Prefix::new(Addr::V4(0), 0).ok_or("a prefix")?;
+    let eight = Prefix::new(Addr::V4(0x0A00_0000), 8).ok_or("a prefix")?;
+    let too_many = opened(&with_communities(rt.alloc(), 1013)?, Family::Ipv4);
+    assert_eq!(rt; too_many.bytes().len(), 0);
+    let mut out = opened(&with_communities(rt.alloc(), 1012)?, Family::Ipv4);
+    for (prefix, fits, len) in [(eight, false, 4095), (none, true, 4096)] {
+        assert_eq!(rt; put_ipv4(&mut out, &NO_PATHS, prefix, 0), fits);
+        assert_eq!(rt; out.bytes().len(), len);
+    }
+    Ok(())
+}
