@@ -28,8 +28,8 @@ use lists::{put_exts, put_larges, put_u32s};
 use path::put_path;
 use route_values::{Aggregator, Family, Origin, WireAttrs};
 
-/// Puts the attributes of an announcement at the end, in rising order of their codes (RFC 4271, section 5, and
-/// appendix F.4), where they fit. An extended length is used exactly where a value passes 255 bytes. For IPv6 the
+/// Puts the attributes of an announcement at the end, in rising order of their codes (RFC 4271, section 5), where
+/// they fit. An extended length is used exactly where a value passes 255 bytes. For IPv6 the
 /// MP_REACH_NLRI is among them, without prefixes (RFC 4760, section 3), and there is no NEXT_HOP. Answers false, with
 /// `out` as it was, exactly where they don't fit.
 pub fn put_attrs(out: &mut Message, attrs: &WireAttrs, family: Family) -> bool

@@ -37,7 +37,7 @@ spell_all law side [] spelled = spells_marker law
 spell_all law side (e ∷ es) spelled =
     let P : List (List ℕ) → Type 0 = λ messages. SpellAll messages (effects_of side e ++ flat_map (effects_of side) es) in
     subst P (sym (append_assoc (messages_of side e) (flat_map (messages_of side) es) (marker ∷ [])))
-        (spell_slot side e.0 e.1 (flat_map (messages_of side) es ++ marker ∷ []) (flat_map (effects_of side) es) spelled.0 (spell_all law side es spelled.1))
+    (spell_slot side e.0 e.1 (flat_map (messages_of side) es ++ marker ∷ []) (flat_map (effects_of side) es) spelled.0 (spell_all law side es spelled.1))
 
 slot_messages : (side : Side) (prefix : Block) (hop : Option ℕ) (rest : List (List ℕ)) → IsSpelledSlot side (prefix, hop) → AllByRecursion IsMessage rest → AllByRecursion IsMessage (messages_of side (prefix, hop) ++ rest)
 slot_messages side prefix None rest spelled others = others

@@ -95,7 +95,7 @@ leaves_plain side [] key distinct plain = refl
 leaves_plain side (e ∷ es) key distinct plain =
     last_word-append effect_says (effects_of side e) (flat_map (effects_of side) es) key
     ∙ leaves_one side e.0 e.1 es key (same_block e.0 key.prefix) refl plain (IsDistinct-head same_block e.0 (keys_of es) distinct)
-        (leaves_plain side es key (IsDistinct-tail same_block e.0 (keys_of es) distinct) plain)
+    (leaves_plain side es key (IsDistinct-tail same_block e.0 (keys_of es) distinct) plain)
 
 -- and nothing of a key with one
 leaves_other : (side : Side) (slots : List (Block × Option ℕ)) (key : Key) → (0 == key.id) ≡ false → last_word effect_says (flat_map (effects_of side) slots) key ≡ None

@@ -14,7 +14,9 @@ ghost use Rattle.exa_top.specs.Slots.{IsSlot};
 use crate::table::Table;
 use attr_codec::Message;
 use hex::encode_upper;
-use route_values::{Addr, Attrs, Caps, Family, Hop, Items, Key, NoMemory, Prefix, Side, WireAttrs, wire};
+use route_values::{
+    Addr, Attrs, Caps, Family, Hop, Items, Key, NoMemory, Prefix, Side, WireAttrs, wire,
+};
 use std::alloc::Global;
 use update_codec::{open_here, put_end_of_rib, put_nlri};
 use update_grammar::written_is_spelled;

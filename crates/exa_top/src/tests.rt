@@ -39,9 +39,7 @@ fn run(
 }
 
 #[test]
-fn lines_are_answered_and_the_messages_leave_what_they_say(
-    rt: HostRuntime,
-) -> Result<(), Fail> {
+fn lines_are_answered_and_the_messages_leave_what_they_say(rt: HostRuntime) -> Result<(), Fail> {
     let external = ["encode", "65001", "65002", "192.0.2.9"];
     let internal = ["encode", "65001", "65001", "192.0.2.9"];
     let table: [(&str, [&str; 4], &str, &str); 6] = [
@@ -119,14 +117,16 @@ fn help_and_version_write_their_texts(rt: HostRuntime) -> Result<(), Fail> {
     assert_eq!(rt; version.output.as_str(), "exabgpd 0.1.0\n");
     let help = run(rt.alloc(), &["--help"], ROUTE, &[0], &[])?;
     assert_eq!(rt; help.status, Status::Ok);
-    assert!(rt; help.output.as_str().starts_with("usage: exabgpd encode LOCAL_AS PEER_AS LOCAL_IP\n"));
+    assert!(rt;
+        help.output
+            .as_str()
+            .starts_with("usage: exabgpd encode LOCAL_AS PEER_AS LOCAL_IP\n")
+    );
     Ok(())
 }
 
 #[test]
-fn words_that_spell_no_command_are_usage_and_touch_nothing(
-    rt: HostRuntime,
-) -> Result<(), Fail> {
+fn words_that_spell_no_command_are_usage_and_touch_nothing(rt: HostRuntime) -> Result<(), Fail> {
     let table: [&[&str]; 7] = [
         &[],
         &["frob"],

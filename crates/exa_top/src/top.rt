@@ -20,7 +20,8 @@ const MAX_INPUT: usize = 1 << 40;
 const VERSION: &[u8] = b"exabgpd 0.1.0\n";
 
 /// What `--help` writes.
-const HELP: &[u8] = b"usage: exabgpd encode LOCAL_AS PEER_AS LOCAL_IP\n           reads announce and withdraw lines, writes replies and UPDATE messages\n       exabgpd --help\n           writes this text\n       exabgpd --version\n           writes the name and the version\n";
+const HELP: &[u8] =
+    b"usage: exabgpd encode LOCAL_AS PEER_AS LOCAL_IP\n           reads announce and withdraw lines, writes replies and UPDATE messages\n       exabgpd --help\n           writes this text\n       exabgpd --version\n           writes the name and the version\n";
 
 /// Runs the text command that the words spell.
 ///

@@ -37,5 +37,9 @@ impl Pick {
 pub fn is_picked(selector: &Selector, settings: &Settings) -> bool
     ensures { IsTrue result ↔ IsPicked selector.now settings.now }
 {
-    selector.len() == 0 || selector.as_slice().iter().any(|pick| pick.matches(settings))
+    selector.len() == 0
+        || selector
+            .as_slice()
+            .iter()
+            .any(|pick| pick.matches(settings))
 }

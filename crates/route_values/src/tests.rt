@@ -4,10 +4,12 @@ use std::test::Fail;
 
 /// The own AS, and that of a neighbour.
 const OWN: u32 = 65001;
+
 const OTHER: u32 = 65002;
 
 /// 192.0.2.9 and 192.0.2.1.
 const LOCAL: Addr = Addr::V4(0xC000_0209);
+
 const HOP: Addr = Addr::V4(0xC000_0201);
 
 fn side(peer_as: u32) -> Side {
