@@ -29,16 +29,18 @@ lines() {
 
 # The clock's seconds, processor seconds and kilobytes of the fastest of three runs of a program.
 fastest() {
+  TIMEFORMAT='%3R %3U %3S'
   for _ in 1 2 3; do
-    /usr/bin/time -f '%e %U %S %M' -o "$folder/took" "$1" "${words[@]}" <"$folder/lines" >"$folder/$2"
-    awk '{ print $1, $2 + $3, $4 }' "$folder/took"
+    { time /usr/bin/time -f %M -o "$folder/most" "$1" "${words[@]}" <"$folder/lines" >"$folder/$2"; } 2>"$folder/took"
+    awk '{ printf "%s %.3f ", $1, $2 + $3 }' "$folder/took"
+    cat "$folder/most"
   done | sort -n | head -n 1
 }
 
 row() {
   read -r seconds busy kilobytes
   awk -v lines="$1" -v hops="$2" -v who="$3" -v s="$seconds" -v c="$busy" -v k="$kilobytes" 'BEGIN {
-    printf "| %d | %s | %s | %d | %.2f | %.1f |\n", lines, hops, who, lines / (s > 0 ? s : 0.01), c, k / 1024 }'
+    printf "| %d | %s | %s | %d | %.3f | %.1f |\n", lines, hops, who, lines / (s > 0 ? s : 0.001), c, k / 1024 }'
   echo "$hops $3 $1 $busy" >>"$folder/costs"
 }
 
