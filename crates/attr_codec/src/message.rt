@@ -1,5 +1,5 @@
 //! The buffer that a message is written into.
-ghost use Rattle.std.specs.Prelude.{◌≡◌, ◌+◌, ◌≤◌, [], ◌++◌, length, take, drop};
+ghost use Rattle.std.specs.Prelude.{ℕ, ◌≡◌, ◌+◌, ◌≤◌, List, [], ◌++◌, length, take, drop};
 ghost use Rattle.std.specs.Int.{w16, to_be_bytes};
 
 use arrayvec::ArrayVec;
@@ -76,6 +76,29 @@ impl Message {
         ensures { Appended self.old self.new piece.now }
     {
         let _ = self.bytes.try_extend_from_slice(piece);
+    }
+
+    /// Writes bytes over those that stand from `start` on.
+    pub fn overwrite(&mut self, start: usize, piece: &[u8])
+        requires { start + length piece.now ≤ length self.old.bytes }
+        ensures { self.new ≡ record self.old {
+          bytes = take start self.old.bytes ++ (piece.now ++ drop (start + length piece.now) self.old.bytes);
+        } }
+    {
+        let cells = self.bytes.as_mut_slice();
+        cells[start..start + piece.len()].copy_from_slice(piece);
+    }
+
+    /// Moves the last `count` bytes to the place `start`, before those that stand from there on.
+    pub fn move_last(&mut self, start: usize, count: usize)
+        requires { start + count ≤ length self.old.bytes }
+        ensures bytes { (before after last : List ℕ) → length before ≡ start → length last ≡ count →
+            self.old.bytes ≡ before ++ (after ++ last) → self.new.bytes ≡ before ++ (last ++ after) }
+        ensures room { self.new.room ≡ self.old.room }
+        ensures len { length self.new.bytes ≡ length self.old.bytes }
+    {
+        let cells = self.bytes.as_mut_slice();
+        cells[start..].rotate_right(count);
     }
 
     /// Writes how many bytes there are into the header (RFC 4271, section 4.1).
