@@ -81,9 +81,9 @@ impl Message {
     /// Writes bytes over those that stand from `start` on.
     pub fn overwrite(&mut self, start: usize, piece: &[u8])
         requires { start + length piece.now ≤ length self.old.bytes }
-        ensures { self.new ≡ record self.old {
-          bytes = take start self.old.bytes ++ (piece.now ++ drop (start + length piece.now) self.old.bytes);
-        } }
+        ensures bytes { self.new.bytes ≡ take start self.old.bytes ++ (piece.now ++ drop (start + length piece.now) self.old.bytes) }
+        ensures room { self.new.room ≡ self.old.room }
+        ensures len { length self.new.bytes ≡ length self.old.bytes }
     {
         let cells = self.bytes.as_mut_slice();
         cells[start..start + piece.len()].copy_from_slice(piece);

@@ -29,7 +29,7 @@ frame n = header (23 + n) 2 ++ (0 ∷ 0 ∷ to_be_bytes w16 n)
 abbrev framed : List ℕ → List ℕ
 framed attributes = header (19 + length (body [] attributes [])) 2 ++ body [] attributes []
 
-frame_before : (attributes : List ℕ) → frame (length attributes) ++ attributes ≡ framed attributes
+pub frame_before : (attributes : List ℕ) → frame (length attributes) ++ attributes ≡ framed attributes
 frame_before attributes =
     let total : 23 + length attributes ≡ 19 + length (body [] attributes []) = omega (arith, length-append attributes []) in
     append_assoc (header (23 + length attributes) 2) (0 ∷ 0 ∷ to_be_bytes w16 (length attributes)) attributes

@@ -9,4 +9,4 @@
 mod tests;
 mod writing;
 
-pub use writing::{open_gone, open_here, put_end_of_rib, put_nlri};
+pub use writing::{open_gone, open_here, put_end_of_rib, put_nlri, put_unreach};

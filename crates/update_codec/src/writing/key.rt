@@ -1,0 +1,58 @@
+//! The text of one prefix, with the identifier exactly where the session has path identifiers for its family.
+ghost use Rattle.std.specs.Prelude.{◌≡◌, ◌≤◌, [], length, if◌then◌else◌};
+ghost use Rattle.std.specs.Int.{w32, to_be_bytes};
+ghost use Rattle.update_grammar.specs.Prefixes.{key_text, block_text};
+ghost use Rattle.attr_codec.specs.Buffer.{HasRoom, Appended};
+
+use attr_codec::Message;
+use route_values::{Addr, Key, Prefix};
+
+/// How many bytes a path identifier has (RFC 7911, section 3).
+const ID_LEN: usize = 4;
+
+/// How many bytes a prefix takes: its identifier, a bit count, and the fewest bytes that hold so many bits.
+pub fn key_len(key: &Key, path: bool) -> usize
+    ensures value { result ≡ length (key_text path key.now) }
+    ensures small { result ≤ 21 }
+{
+    let id_len = if path { ID_LEN } else { 0 };
+    id_len + block_len(&key.prefix)
+}
+
+/// Puts a prefix at the end.
+pub fn put_key(out: &mut Message, key: &Key, path: bool)
+    requires { HasRoom out.old (length (key_text path key.now)) }
+    ensures { Appended out.old out.new (key_text path key.now) }
+{
+    put_id(out, key.id, path);
+    put_block(out, &key.prefix);
+}
+
+fn block_len(prefix: &Prefix) -> usize
+    ensures value { result ≡ length (block_text prefix.now) }
+    ensures small { result ≤ 17 }
+{
+    1 + usize::from(prefix.len()).div_ceil(8)
+}
+
+fn put_id(out: &mut Message, id: u32, path: bool)
+    requires { HasRoom out.old (length (if path then to_be_bytes w32 id else [])) }
+    ensures { Appended out.old out.new (if path then to_be_bytes w32 id else []) }
+{
+    if path {
+        out.append(&id.to_be_bytes());
+    }
+}
+
+fn put_block(out: &mut Message, prefix: &Prefix)
+    requires { HasRoom out.old (length (block_text prefix.now)) }
+    ensures { Appended out.old out.new (block_text prefix.now) }
+{
+    let bits = prefix.len();
+    let bytes = usize::from(bits).div_ceil(8);
+    out.append(&[bits]);
+    match prefix.addr() {
+        Addr::V4(number) => out.append(&number.to_be_bytes()[..bytes]),
+        Addr::V6(number) => out.append(&number.to_be_bytes()[..bytes]),
+    }
+}
