@@ -59,8 +59,8 @@ pub short_unreached : (prefixes : List ℕ) (total attributes value : ℕ) → l
 short_unreached prefixes total attributes value short total_is attributes_is value_is =
     let len : length (0 ∷ 2 ∷ 1 ∷ prefixes) ≡ value = omega (arith, value_is) in
     let is : unreach_text prefixes ≡ 128 ∷ 15 ∷ value ∷ 0 ∷ 2 ∷ 1 ∷ prefixes =
-        ap (λ front. front ++ (0 ∷ 2 ∷ 1 ∷ prefixes)) (short_head (length (0 ∷ 2 ∷ 1 ∷ prefixes)) (not_over (length (0 ∷ 2 ∷ 1 ∷ prefixes)) (omega (arith, short))))
-        ∙ ap (λ n. 128 ∷ 15 ∷ n ∷ 0 ∷ 2 ∷ 1 ∷ prefixes) len in
+    ap (λ front. front ++ (0 ∷ 2 ∷ 1 ∷ prefixes)) (short_head (length (0 ∷ 2 ∷ 1 ∷ prefixes)) (not_over (length (0 ∷ 2 ∷ 1 ∷ prefixes)) (omega (arith, short))))
+    ∙ ap (λ n. 128 ∷ 15 ∷ n ∷ 0 ∷ 2 ∷ 1 ∷ prefixes) len in
     sym (frame_before (unreach_text prefixes))
     ∙ ap (λ text. frame (length text) ++ text) is
     ∙ around (128 ∷ 15 ∷ value ∷ 0 ∷ 2 ∷ 1 ∷ prefixes) total attributes (omega (arith, total_is)) (omega (arith, attributes_is))
@@ -70,8 +70,8 @@ pub long_unreached : (prefixes : List ℕ) (total attributes value : ℕ) → 25
 long_unreached prefixes total attributes value long total_is attributes_is value_is =
     let len : length (0 ∷ 2 ∷ 1 ∷ prefixes) ≡ value = omega (arith, value_is) in
     let is : unreach_text prefixes ≡ 144 ∷ 15 ∷ (to_be_bytes w16 value ++ (0 ∷ 2 ∷ 1 ∷ prefixes)) =
-        ap (λ front. front ++ (0 ∷ 2 ∷ 1 ∷ prefixes)) (long_head (length (0 ∷ 2 ∷ 1 ∷ prefixes)) (over (length (0 ∷ 2 ∷ 1 ∷ prefixes)) (omega (arith, long))))
-        ∙ ap (λ n. 144 ∷ 15 ∷ (to_be_bytes w16 n ++ (0 ∷ 2 ∷ 1 ∷ prefixes))) len in
+    ap (λ front. front ++ (0 ∷ 2 ∷ 1 ∷ prefixes)) (long_head (length (0 ∷ 2 ∷ 1 ∷ prefixes)) (over (length (0 ∷ 2 ∷ 1 ∷ prefixes)) (omega (arith, long))))
+    ∙ ap (λ n. 144 ∷ 15 ∷ (to_be_bytes w16 n ++ (0 ∷ 2 ∷ 1 ∷ prefixes))) len in
     sym (frame_before (unreach_text prefixes))
     ∙ ap (λ text. frame (length text) ++ text) is
     ∙ around (144 ∷ 15 ∷ (to_be_bytes w16 value ++ (0 ∷ 2 ∷ 1 ∷ prefixes))) total attributes (omega (arith, total_is)) (omega (arith, attributes_is))
@@ -198,7 +198,7 @@ withdrawn_more prefixes more old put moved written new start count n is put_is s
     let ends : old ≡ withdrawn_front prefixes ++ (0 ∷ 0 ∷ []) = is ∙ withdrawn_ends prefixes (23 + length prefixes) (length prefixes) refl refl in
     let len : length old ≡ length (withdrawn_front prefixes) + 2 = ap length ends ∙ length-append (withdrawn_front prefixes) (0 ∷ 0 ∷ []) in
     let moved_is : moved ≡ withdrawn_front prefixes ++ (more ++ 0 ∷ 0 ∷ []) =
-        moves (withdrawn_front prefixes) (0 ∷ 0 ∷ []) more (omega (arith, start_is, len)) (sym count_is) (put_is ∙ ap (λ front. front ++ more) ends ∙ append_assoc (withdrawn_front prefixes) (0 ∷ 0 ∷ []) more) in
+    moves (withdrawn_front prefixes) (0 ∷ 0 ∷ []) more (omega (arith, start_is, len)) (sym count_is) (put_is ∙ ap (λ front. front ++ more) ends ∙ append_assoc (withdrawn_front prefixes) (0 ∷ 0 ∷ []) more) in
     rw new_is (rw written_is (withdrawn_closed prefixes more moved n moved_is (n_is ∙ sym moved_len)))
 
 -- a withdrawal of prefixes of a family

@@ -14,11 +14,16 @@ use route_values::{
 };
 use std::alloc::Global;
 use std::test::Fail;
-use vectors::{FULL_IPV4, FULL_IPV6, IPV4_MARKER, IPV6_MARKER, ONE_PREFIX, THREE_IDENTIFIED};
+use vectors::{
+    FULL_IPV4, FULL_IPV6, IPV4_MARKER, IPV6_MARKER, LONG_FRONT, ONE_PREFIX, SHORT_FRONT,
+    THREE_IDENTIFIED, WITHDRAWN_IPV4, WITHDRAWN_IPV6,
+};
 
 const IPV4_HOP: Addr = Addr::V4(0xC000_0201);
 
 const IPV6_HOP: Addr = Addr::V6(0x2001_0DB8_0000_0000_0000_0000_0000_0009);
+
+const IPV6_NET: Addr = Addr::V6(0x2001_0DB8_0000_0000_0000_0000_0000_0000);
 
 const NO_PATHS: Caps = Caps {
     ipv4: true,
@@ -199,6 +204,15 @@ fn put_ipv4(out: &mut Message, caps: &Caps, prefix: Prefix, id: u32) -> bool {
     key.family() == Family::Ipv4 && out.bytes().len() >= 23 && put_nlri(out, caps, &key)
 }
 
+// Puts a prefix where a withdrawal of its family is open.
+fn withdraw(out: &mut Message, prefix: Prefix) -> bool {
+    let key = Key { prefix, id: 0 };
+    match key.family() {
+        Family::Ipv4 => out.bytes().len() >= 23 && put_unreach(out, &NO_PATHS, &key),
+        Family::Ipv6 => out.bytes().len() >= 29 && put_unreach(out, &NO_PATHS, &key),
+    }
+}
+
 #[test]
 fn an_announcement_has_the_fields_of_an_update(rt: HostRuntime) -> Result<(), Fail> {
     let prefix = Prefix::new(Addr::V4(0x0A00_0000), 24).ok_or("a prefix")?;
@@ -268,6 +282,40 @@ fn what_does_not_fit_leaves_the_buffer(rt: HostRuntime) -> Result<(), Fail> {
     for (prefix, fits, len) in [(eight, false, 4095), (none, true, 4096)] {
         assert_eq!(rt; put_ipv4(&mut out, &NO_PATHS, prefix, 0), fits);
         assert_eq!(rt; out.bytes().len(), len);
+    }
+    Ok(())
+}
+
+#[test]
+fn a_withdrawal_has_its_prefixes_in_the_field_of_their_family(rt: HostRuntime) -> Result<(), Fail> {
+    let ipv4 = Prefix::new(Addr::V4(0x0A00_0000), 24).ok_or("a prefix")?;
+    let ipv6 = Prefix::new(IPV6_NET, 32).ok_or("a prefix")?;
+    for (prefix, family, wanted) in [
+        (ipv4, Family::Ipv4, WITHDRAWN_IPV4),
+        (ipv6, Family::Ipv6, WITHDRAWN_IPV6),
+    ] {
+        let mut out = Message::new(4096);
+        open_gone(&mut out, family);
+        assert!(rt; withdraw(&mut out, prefix));
+        assert_eq!(rt; out.bytes(), wanted, "a withdrawal of {family:?}");
+    }
+    Ok(())
+}
+
+#[test]
+fn an_attribute_of_256_bytes_has_a_length_of_two(rt: HostRuntime) -> Result<(), Fail> {
+    let five = Prefix::new(IPV6_NET, 32).ok_or("a prefix")?;
+    let two = Prefix::new(Addr::V6(0x20 << 120), 8).ok_or("a prefix")?;
+    let one = Prefix::new(Addr::V6(0), 0).ok_or("a prefix")?;
+    for (room, fits, front) in [(282, false, SHORT_FRONT), (283, true, LONG_FRONT)] {
+        let mut out = Message::new(room);
+        assert!(rt; put_end_of_rib(&mut out, Family::Ipv6));
+        for _ in 0..50 {
+            assert!(rt; withdraw(&mut out, five));
+        }
+        assert!(rt; withdraw(&mut out, two));
+        assert_eq!(rt; withdraw(&mut out, one), fits, "a room of {room}");
+        assert!(rt; out.bytes().starts_with(front), "a room of {room}");
     }
     Ok(())
 }

@@ -1,7 +1,7 @@
 //! The text of one prefix, with the identifier exactly where the session has path identifiers for its family.
 ghost use Rattle.std.specs.Prelude.{◌≡◌, ◌≤◌, [], length, if◌then◌else◌};
 ghost use Rattle.std.specs.Int.{w32, to_be_bytes};
-ghost use Rattle.update_grammar.specs.Prefixes.{key_text, block_text};
+ghost use Rattle.update_grammar.specs.Prefixes.{bytes_for, key_text, block_text};
 ghost use Rattle.attr_codec.specs.Buffer.{HasRoom, Appended};
 
 use attr_codec::Message;
@@ -32,7 +32,14 @@ fn block_len(prefix: &Prefix) -> usize
     ensures value { result ≡ length (block_text prefix.now) }
     ensures small { result ≤ 17 }
 {
-    1 + usize::from(prefix.len()).div_ceil(8)
+    1 + bytes_of(prefix.len())
+}
+
+// The fewest bytes that hold so many bits.
+fn bytes_of(bits: u8) -> usize
+    ensures { result ≡ bytes_for bits }
+{
+    usize::from(bits).div_ceil(8)
 }
 
 fn put_id(out: &mut Message, id: u32, path: bool)
@@ -49,7 +56,7 @@ fn put_block(out: &mut Message, prefix: &Prefix)
     ensures { Appended out.old out.new (block_text prefix.now) }
 {
     let bits = prefix.len();
-    let bytes = usize::from(bits).div_ceil(8);
+    let bytes = bytes_of(bits);
     out.append(&[bits]);
     match prefix.addr() {
         Addr::V4(number) => out.append(&number.to_be_bytes()[..bytes]),

@@ -4,18 +4,15 @@ ghost use Rattle.std.specs.Bool.{OnTrue, OnFalse};
 ghost use Rattle.route_values.specs.declared.addr.Family.TheVariants.{Ipv4};
 ghost use Rattle.route_values.specs.declared.attrs.WireAttrs.{WireAttrs};
 ghost use Rattle.route_values.specs.declared.key.Key.{Key as RouteKey};
-ghost use Rattle.route_values.specs.Addr.{family_of};
 ghost use Rattle.route_values.specs.Key.{family_of_key};
 ghost use Rattle.update_grammar.specs.Head as head;
-ghost use Rattle.update_grammar.specs.Prefixes.{key_text, addr_bytes};
+ghost use Rattle.update_grammar.specs.Prefixes.{key_text};
 ghost use Rattle.update_grammar.specs.Written.{written};
 ghost use Rattle.attr_codec.specs.Buffer.{HasRoom, Appended};
 
+use super::key::{key_len, put_key};
 use attr_codec::Message;
-use route_values::{Addr, Caps, Key, Prefix};
-
-/// How many bytes a path identifier has (RFC 7911, section 3).
-const ID_LEN: usize = 4;
+use route_values::{Caps, Key};
 
 /// Puts one more IPv4 prefix at the end of an announcement, and makes the length in its header right: with the
 /// identifier exactly where the session has path identifiers for IPv4, and in the fewest bytes that hold its bits.
@@ -31,27 +28,11 @@ pub fn put_nlri(out: &mut Message, caps: &Caps, key: &Key) -> bool
     ensures room { out.new.room ≡ out.old.room }
     ensures refused { OnFalse result (out.new ≡ out.old) }
 {
-    let id = key.id.to_be_bytes();
-    let id_len = if caps.ipv4_path { ID_LEN } else { 0 };
-    let bits = key.prefix.len();
-    let bytes = usize::from(bits).div_ceil(8);
-    let number = ipv4_bytes(&key.prefix);
-    if out.spare() < id_len + 1 + bytes {
+    let path = caps.ipv4_path;
+    if out.spare() < key_len(key, path) {
         return false;
     }
-    out.append(&id[..id_len]);
-    out.append(&[bits]);
-    out.append(&number[..bytes]);
+    put_key(out, key, path);
     out.seal();
     true
-}
-
-fn ipv4_bytes(prefix: &Prefix) -> [u8; 4]
-    requires { family_of prefix.now.addr ≡ Ipv4 }
-    ensures { result ≡ addr_bytes prefix.now.addr }
-{
-    match prefix.addr() {
-        Addr::V4(number) => number.to_be_bytes(),
-        Addr::V6(_) => unreachable!(),
-    }
 }

@@ -104,13 +104,7 @@ fn growth(family: Family, len: usize, more: usize) -> usize
 {
     match family {
         Family::Ipv4 => more,
-        Family::Ipv6 => {
-            if outgrows(len, more) {
-                more + 1
-            } else {
-                more
-            }
-        }
+        Family::Ipv6 => { if outgrows(len, more) { more + 1 } else { more } }
     }
 }
 
@@ -211,6 +205,9 @@ fn close_long(out: &mut Message)
     let len = out.bytes().len();
     out.overwrite(ATTRIBUTES_LEN, &((len - FRAME_LEN) as u16).to_be_bytes());
     out.overwrite(FLAGS, &[EXTENDED]);
-    out.overwrite(VALUE_LEN, &((len - FRAME_LEN - LONG_HEAD) as u16).to_be_bytes());
+    out.overwrite(
+        VALUE_LEN,
+        &((len - FRAME_LEN - LONG_HEAD) as u16).to_be_bytes(),
+    );
     out.seal();
 }
