@@ -1,6 +1,5 @@
 -- Withdrawals: what the writes of one more prefix make of their bytes.
-use Rattle.std.proofs.Common.{ℕ, ◌≡◌, ◌+◌, ◌-◌, ◌<◌, ◌≤◌, ◌⊎◌, inl, inr, true, false, List, [], ◌∷◌, ◌++◌, length, take, drop, nat_lt, Bool, arith, length-append, append_assoc, append-nil, subst, ap, sym, ◌∙◌, refl, if◌then◌else◌}
-use Rattle.std.specs.List.{flat_map}
+use Rattle.std.proofs.Common.{ℕ, ◌≡◌, ◌+◌, ◌-◌, ◌<◌, ◌≤◌, ◌⊎◌, inl, inr, true, false, List, [], ◌∷◌, ◌++◌, length, take, drop, nat_lt, Bool, arith, length-append, append_assoc, append-nil, subst, ap, sym, ◌∙◌, refl}
 use Rattle.std.specs.Int.{w16, to_be_bytes}
 use Rattle.std.proofs.lemmas.List.Concat.{flat_map-append}
 use Rattle.route_values.specs.declared.addr.Family.{Family}
@@ -9,7 +8,7 @@ use Rattle.route_values.specs.declared.caps.Caps.{Caps}
 use Rattle.route_values.specs.declared.key.Key.{Key}
 use Rattle.route_values.specs.Visible.{has_path}
 use Rattle.update_grammar.specs.Head as head
-use Rattle.update_grammar.specs.Attributes.{raw_head, optional, is_extended}
+use Rattle.update_grammar.specs.Attributes.{raw_head, optional}
 use Rattle.update_grammar.specs.Prefixes.{key_text, keys_text}
 use Rattle.update_grammar.specs.Update.{body}
 use Rattle.update_grammar.specs.Written.{header, message, flags_for, unreach_text, written}
