@@ -102,3 +102,13 @@ fn a_buffer_is_filled_and_sealed_and_emptied(rt: HostRuntime) {
     out.clear();
     assert_eq!(rt; out.spare(), 25);
 }
+
+#[test]
+fn bytes_of_a_buffer_are_written_over_and_moved(rt: HostRuntime) {
+    let mut out = Message::new(6);
+    out.append(&[1, 2, 3, 4, 5, 6]);
+    out.overwrite(1, &[7, 8]);
+    assert_eq!(rt; out.bytes(), [1, 7, 8, 4, 5, 6].as_slice());
+    out.move_last(1, 2);
+    assert_eq!(rt; out.bytes(), [1, 5, 6, 7, 8, 4].as_slice());
+}

@@ -76,19 +76,19 @@ long_unreached prefixes total attributes value long total_is attributes_is value
     ∙ around (144 ∷ 15 ∷ (to_be_bytes w16 value ++ (0 ∷ 2 ∷ 1 ∷ prefixes))) total attributes (omega (arith, total_is)) (omega (arith, attributes_is))
 
 -- right lengths make the text of the prefixes
-pub short_closed : (a b c d v n : ℕ) (prefixes old first second new : List ℕ) → length old ≤ 281 → old ≡ short_text a b c d v prefixes → n ≡ length old
-    → first ≡ overwritten 21 (to_be_bytes w16 (n - 23)) old → second ≡ overwritten 25 ((n - 23 - 3) ∷ []) first → new ≡ sealed second → new ≡ unreached prefixes
-short_closed a b c d v n prefixes old first second new short is n_is first_is second_is new_is =
-    let len : n ≡ 29 + length prefixes = omega (arith, n_is, ap length is) in
-    let few : length prefixes ≤ 252 = omega (arith, short, n_is, len) in
-    rw new_is (rw second_is (rw first_is (rw is (sym (short_unreached prefixes (length (short_text a b c d v prefixes)) (n - 23) (n - 23 - 3) few (omega arith) (omega (arith, len)) (omega (arith, len)))))))
+pub short_closed : (total_high total_low field_high field_low value_len size : ℕ) (prefixes old first second new : List ℕ) → length old ≤ 281 → old ≡ short_text total_high total_low field_high field_low value_len prefixes → size ≡ length old
+    → first ≡ overwritten 21 (to_be_bytes w16 (size - 23)) old → second ≡ overwritten 25 ((size - 23 - 3) ∷ []) first → new ≡ sealed second → new ≡ unreached prefixes
+short_closed total_high total_low field_high field_low value_len size prefixes old first second new short is size_is first_is second_is new_is =
+    let len : size ≡ 29 + length prefixes = omega (arith, size_is, ap length is) in
+    let few : length prefixes ≤ 252 = omega (arith, short, size_is, len) in
+    rw new_is (rw second_is (rw first_is (rw is (sym (short_unreached prefixes (length (short_text total_high total_low field_high field_low value_len prefixes)) (size - 23) (size - 23 - 3) few (omega arith) (omega (arith, len)) (omega (arith, len)))))))
 
-pub long_closed : (a b c d f v w n : ℕ) (prefixes old first second third new : List ℕ) → 282 < length old → old ≡ long_text a b c d f v w prefixes → n ≡ length old
-    → first ≡ overwritten 21 (to_be_bytes w16 (n - 23)) old → second ≡ overwritten 23 (144 ∷ []) first → third ≡ overwritten 25 (to_be_bytes w16 (n - 23 - 4)) second → new ≡ sealed third → new ≡ unreached prefixes
-long_closed a b c d f v w n prefixes old first second third new long is n_is first_is second_is third_is new_is =
-    let len : n ≡ 30 + length prefixes = omega (arith, n_is, ap length is) in
-    let many : 253 ≤ length prefixes = omega (arith, long, n_is, len) in
-    rw new_is (rw third_is (rw second_is (rw first_is (rw is (sym (long_unreached prefixes (length (long_text a b c d f v w prefixes)) (n - 23) (n - 23 - 4) many (omega arith) (omega (arith, len)) (omega (arith, len))))))))
+pub long_closed : (total_high total_low field_high field_low flags value_high value_low size : ℕ) (prefixes old first second third new : List ℕ) → 282 < length old → old ≡ long_text total_high total_low field_high field_low flags value_high value_low prefixes → size ≡ length old
+    → first ≡ overwritten 21 (to_be_bytes w16 (size - 23)) old → second ≡ overwritten 23 (144 ∷ []) first → third ≡ overwritten 25 (to_be_bytes w16 (size - 23 - 4)) second → new ≡ sealed third → new ≡ unreached prefixes
+long_closed total_high total_low field_high field_low flags value_high value_low size prefixes old first second third new long is size_is first_is second_is third_is new_is =
+    let len : size ≡ 30 + length prefixes = omega (arith, size_is, ap length is) in
+    let many : 253 ≤ length prefixes = omega (arith, long, size_is, len) in
+    rw new_is (rw third_is (rw second_is (rw first_is (rw is (sym (long_unreached prefixes (length (long_text total_high total_low field_high field_low flags value_high value_low prefixes)) (size - 23) (size - 23 - 4) many (omega arith) (omega (arith, len)) (omega (arith, len))))))))
 
 -- how long a withdrawal is tells how long its prefixes are
 length_by : (prefixes : List ℕ) (over : Bool) → nat_lt 252 (length prefixes) ≡ over
@@ -116,10 +116,10 @@ many_prefixes prefixes old is long = many_where prefixes (length_by prefixes (na
 
 -- what closing does, for each length of the attribute's length
 abbrev pub ClosesShort : List ℕ → List ℕ → Type 0
-ClosesShort old new = (a b c d v : ℕ) → (prefixes : List ℕ) → length old ≤ 281 → old ≡ short_text a b c d v prefixes → new ≡ unreached prefixes
+ClosesShort old new = (total_high total_low field_high field_low value_len : ℕ) → (prefixes : List ℕ) → length old ≤ 281 → old ≡ short_text total_high total_low field_high field_low value_len prefixes → new ≡ unreached prefixes
 
 abbrev pub ClosesLong : List ℕ → List ℕ → Type 0
-ClosesLong old new = (a b c d f v w : ℕ) → (prefixes : List ℕ) → 282 < length old → old ≡ long_text a b c d f v w prefixes → new ≡ unreached prefixes
+ClosesLong old new = (total_high total_low field_high field_low flags value_high value_low : ℕ) → (prefixes : List ℕ) → 282 < length old → old ≡ long_text total_high total_low field_high field_low flags value_high value_low prefixes → new ≡ unreached prefixes
 
 -- one more prefix where the attribute's length stays short
 pub short_stays : (prefixes more old put new : List ℕ) → old ≡ unreached prefixes → put ≡ old ++ more → length old + length more ≤ 281 → ClosesShort put new → new ≡ unreached (prefixes ++ more)
@@ -146,24 +146,24 @@ short_widens prefixes more old wide put new is widens wide_len put_is short long
     closes _ _ _ _ _ _ _ (prefixes ++ more) (omega (arith, long, wide_len, ap length put_is, length-append wide more)) (put_is ∙ ap (λ bytes. bytes ++ more) wide_is)
 
 -- what it is to outgrow a short length, and what it is not to
-outgrown : (n m : ℕ) → outgrows n m ≡ true → (n ≤ 281) × (281 < n + m)
-outgrown n m is = (grind (arith, is), grind (arith, is))
+outgrown : (size added : ℕ) → outgrows size added ≡ true → (size ≤ 281) × (281 < size + added)
+outgrown size added is = (grind (arith, is), grind (arith, is))
 
-not_outgrown : (n m : ℕ) → outgrows n m ≡ false → (281 < n) ⊎ (n + m ≤ 281)
-not_outgrown n m is = grind (arith, is)
+not_outgrown : (size added : ℕ) → outgrows size added ≡ false → (281 < size) ⊎ (size + added ≤ 281)
+not_outgrown size added is = grind (arith, is)
 
-pub widened : (prefixes more old wide put new : List ℕ) (n m : ℕ) → outgrows n m ≡ true → n ≡ length old → m ≡ length more → old ≡ unreached prefixes
+pub widened : (prefixes more old wide put new : List ℕ) (size added : ℕ) → outgrows size added ≡ true → size ≡ length old → added ≡ length more → old ≡ unreached prefixes
     → ((front rest : List ℕ) → length front ≡ 25 → old ≡ front ++ rest → wide ≡ front ++ (0 ∷ rest)) → length wide ≡ length old + 1 → put ≡ wide ++ more → ClosesLong put new → new ≡ unreached (prefixes ++ more)
-widened prefixes more old wide put new n m grows n_is m_is is widens wide_len put_is closes =
-    let both : (n ≤ 281) × (281 < n + m) = outgrown n m grows in
-    short_widens prefixes more old wide put new is widens wide_len put_is (omega (arith, both.0, n_is)) (omega (arith, both.1, n_is, m_is)) closes
+widened prefixes more old wide put new size added grows size_is added_is is widens wide_len put_is closes =
+    let both : (size ≤ 281) × (281 < size + added) = outgrown size added grows in
+    short_widens prefixes more old wide put new is widens wide_len put_is (omega (arith, both.0, size_is)) (omega (arith, both.1, size_is, added_is)) closes
 
-stays : (prefixes more old put new : List ℕ) (n m : ℕ) → (281 < n) ⊎ (n + m ≤ 281) → n ≡ length old → m ≡ length more → 0 < length more → old ≡ unreached prefixes → put ≡ old ++ more → ClosesShort put new → ClosesLong put new → new ≡ unreached (prefixes ++ more)
-stays prefixes more old put new n m (inl long) n_is m_is some is put_is short_closes long_closes = long_stays prefixes more old put new is put_is (omega (arith, long, n_is)) some long_closes
-stays prefixes more old put new n m (inr short) n_is m_is some is put_is short_closes long_closes = short_stays prefixes more old put new is put_is (omega (arith, short, n_is, m_is)) short_closes
+stays : (prefixes more old put new : List ℕ) (size added : ℕ) → (281 < size) ⊎ (size + added ≤ 281) → size ≡ length old → added ≡ length more → 0 < length more → old ≡ unreached prefixes → put ≡ old ++ more → ClosesShort put new → ClosesLong put new → new ≡ unreached (prefixes ++ more)
+stays prefixes more old put new size added (inl long) size_is added_is some is put_is short_closes long_closes = long_stays prefixes more old put new is put_is (omega (arith, long, size_is)) some long_closes
+stays prefixes more old put new size added (inr short) size_is added_is some is put_is short_closes long_closes = short_stays prefixes more old put new is put_is (omega (arith, short, size_is, added_is)) short_closes
 
-pub not_widened : (prefixes more old put new : List ℕ) (n m : ℕ) → outgrows n m ≡ false → n ≡ length old → m ≡ length more → 0 < length more → old ≡ unreached prefixes → put ≡ old ++ more → ClosesShort put new → ClosesLong put new → new ≡ unreached (prefixes ++ more)
-not_widened prefixes more old put new n m grows n_is m_is some is put_is short_closes long_closes = stays prefixes more old put new n m (not_outgrown n m grows) n_is m_is some is put_is short_closes long_closes
+pub not_widened : (prefixes more old put new : List ℕ) (size added : ℕ) → outgrows size added ≡ false → size ≡ length old → added ≡ length more → 0 < length more → old ≡ unreached prefixes → put ≡ old ++ more → ClosesShort put new → ClosesLong put new → new ≡ unreached (prefixes ++ more)
+not_widened prefixes more old put new size added grows size_is added_is some is put_is short_closes long_closes = stays prefixes more old put new size added (not_outgrown size added grows) size_is added_is some is put_is short_closes long_closes
 
 -- a withdrawal of IPv4 prefixes
 abbrev pub withdrawn : List ℕ → List ℕ
@@ -181,24 +181,24 @@ abbrev withdrawn_front : List ℕ → List ℕ
 withdrawn_front prefixes = header (23 + length prefixes) 2 ++ (to_be_bytes w16 (length prefixes) ++ prefixes)
 
 -- more prefixes before the last two bytes, with right lengths
-withdrawn_closed : (prefixes more moved : List ℕ) (n : ℕ) → moved ≡ withdrawn_front prefixes ++ (more ++ 0 ∷ 0 ∷ []) → n ≡ length moved → sealed (overwritten 19 (to_be_bytes w16 (n - 23)) moved) ≡ withdrawn (prefixes ++ more)
-withdrawn_closed prefixes more moved n is n_is =
+withdrawn_closed : (prefixes more moved : List ℕ) (size : ℕ) → moved ≡ withdrawn_front prefixes ++ (more ++ 0 ∷ 0 ∷ []) → size ≡ length moved → sealed (overwritten 19 (to_be_bytes w16 (size - 23)) moved) ≡ withdrawn (prefixes ++ more)
+withdrawn_closed prefixes more moved size is size_is =
     let inner : length (prefixes ++ (more ++ 0 ∷ 0 ∷ [])) ≡ 2 + length (prefixes ++ more) = omega (arith, length-append prefixes (more ++ 0 ∷ 0 ∷ []), length-append more (0 ∷ 0 ∷ []), length-append prefixes more) in
-    let len : n ≡ 23 + length (prefixes ++ more) = omega (arith, n_is, ap length is, inner) in
+    let len : size ≡ 23 + length (prefixes ++ more) = omega (arith, size_is, ap length is, inner) in
     rw is
-    (ap (λ t. header (length (withdrawn_front prefixes ++ (more ++ 0 ∷ 0 ∷ []))) 2 ++ (to_be_bytes w16 (n - 23) ++ t)) (sym (append_assoc prefixes more (0 ∷ 0 ∷ [])))
-    ∙ sym (withdrawn_ends (prefixes ++ more) (length (withdrawn_front prefixes ++ (more ++ 0 ∷ 0 ∷ []))) (n - 23) (omega (arith, inner)) (omega (arith, len))))
+    (ap (λ t. header (length (withdrawn_front prefixes ++ (more ++ 0 ∷ 0 ∷ []))) 2 ++ (to_be_bytes w16 (size - 23) ++ t)) (sym (append_assoc prefixes more (0 ∷ 0 ∷ [])))
+    ∙ sym (withdrawn_ends (prefixes ++ more) (length (withdrawn_front prefixes ++ (more ++ 0 ∷ 0 ∷ []))) (size - 23) (omega (arith, inner)) (omega (arith, len))))
 
 -- one more prefix, put at the end and then moved
-pub withdrawn_more : (prefixes more old put moved written new : List ℕ) (start count n : ℕ) → old ≡ withdrawn prefixes → put ≡ old ++ more → start ≡ length old - 2 → count ≡ length more
+pub withdrawn_more : (prefixes more old put moved written new : List ℕ) (start count size : ℕ) → old ≡ withdrawn prefixes → put ≡ old ++ more → start ≡ length old - 2 → count ≡ length more
     → ((before after last : List ℕ) → length before ≡ start → length last ≡ count → put ≡ before ++ (after ++ last) → moved ≡ before ++ (last ++ after))
-    → n ≡ length put → length moved ≡ length put → written ≡ overwritten 19 (to_be_bytes w16 (n - 23)) moved → new ≡ sealed written → new ≡ withdrawn (prefixes ++ more)
-withdrawn_more prefixes more old put moved written new start count n is put_is start_is count_is moves n_is moved_len written_is new_is =
+    → size ≡ length put → length moved ≡ length put → written ≡ overwritten 19 (to_be_bytes w16 (size - 23)) moved → new ≡ sealed written → new ≡ withdrawn (prefixes ++ more)
+withdrawn_more prefixes more old put moved written new start count size is put_is start_is count_is moves size_is moved_len written_is new_is =
     let ends : old ≡ withdrawn_front prefixes ++ (0 ∷ 0 ∷ []) = is ∙ withdrawn_ends prefixes (23 + length prefixes) (length prefixes) refl refl in
     let len : length old ≡ length (withdrawn_front prefixes) + 2 = ap length ends ∙ length-append (withdrawn_front prefixes) (0 ∷ 0 ∷ []) in
     let moved_is : moved ≡ withdrawn_front prefixes ++ (more ++ 0 ∷ 0 ∷ []) =
     moves (withdrawn_front prefixes) (0 ∷ 0 ∷ []) more (omega (arith, start_is, len)) (sym count_is) (put_is ∙ ap (λ front. front ++ more) ends ∙ append_assoc (withdrawn_front prefixes) (0 ∷ 0 ∷ []) more) in
-    rw new_is (rw written_is (withdrawn_closed prefixes more moved n moved_is (n_is ∙ sym moved_len)))
+    rw new_is (rw written_is (withdrawn_closed prefixes more moved size moved_is (size_is ∙ sym moved_len)))
 
 -- a withdrawal of prefixes of a family
 abbrev pub gone_text : Family → List ℕ → List ℕ

@@ -3,10 +3,10 @@ use Rattle.std.specs.Prelude.{ℕ, List, ◌∷◌, ◌++◌, replicate}
 
 -- with one byte for the length of the MP_UNREACH_NLRI
 abbrev pub short_text : ℕ → ℕ → ℕ → ℕ → ℕ → List ℕ → List ℕ
-short_text a b c d v prefixes =
-    replicate 16 255 ++ (a ∷ b ∷ 2 ∷ 0 ∷ 0 ∷ c ∷ d ∷ 128 ∷ 15 ∷ v ∷ 0 ∷ 2 ∷ 1 ∷ prefixes)
+short_text total_high total_low field_high field_low value_len prefixes =
+    replicate 16 255 ++ (total_high ∷ total_low ∷ 2 ∷ 0 ∷ 0 ∷ field_high ∷ field_low ∷ 128 ∷ 15 ∷ value_len ∷ 0 ∷ 2 ∷ 1 ∷ prefixes)
 
 -- with two bytes for it
 abbrev pub long_text : ℕ → ℕ → ℕ → ℕ → ℕ → ℕ → ℕ → List ℕ → List ℕ
-long_text a b c d f v w prefixes =
-    replicate 16 255 ++ (a ∷ b ∷ 2 ∷ 0 ∷ 0 ∷ c ∷ d ∷ f ∷ 15 ∷ v ∷ w ∷ 0 ∷ 2 ∷ 1 ∷ prefixes)
+long_text total_high total_low field_high field_low flags value_high value_low prefixes =
+    replicate 16 255 ++ (total_high ∷ total_low ∷ 2 ∷ 0 ∷ 0 ∷ field_high ∷ field_low ∷ flags ∷ 15 ∷ value_high ∷ value_low ∷ 0 ∷ 2 ∷ 1 ∷ prefixes)

@@ -164,11 +164,11 @@ fn widen(out: &mut Message)
 // Makes all lengths right: the attribute's has two bytes in a message of more than 281.
 fn close_unreach(out: &mut Message)
     requires { 29 ≤ length out.old.bytes }
-    ensures short { (a b c d v : ℕ) → (prefixes : List ℕ) → length out.old.bytes ≤ 281 →
-        out.old.bytes ≡ short_text a b c d v prefixes →
+    ensures short { (total_high total_low field_high field_low value_len : ℕ) → (prefixes : List ℕ) → length out.old.bytes ≤ 281 →
+        out.old.bytes ≡ short_text total_high total_low field_high field_low value_len prefixes →
         out.new.bytes ≡ message 2 (body [] (unreach_text prefixes) []) }
-    ensures long { (a b c d f v w : ℕ) → (prefixes : List ℕ) → 282 < length out.old.bytes →
-        out.old.bytes ≡ long_text a b c d f v w prefixes →
+    ensures long { (total_high total_low field_high field_low flags value_high value_low : ℕ) → (prefixes : List ℕ) → 282 < length out.old.bytes →
+        out.old.bytes ≡ long_text total_high total_low field_high field_low flags value_high value_low prefixes →
         out.new.bytes ≡ message 2 (body [] (unreach_text prefixes) []) }
     ensures len { length out.new.bytes ≡ length out.old.bytes }
     ensures room { out.new.room ≡ out.old.room }
@@ -183,7 +183,7 @@ fn close_unreach(out: &mut Message)
 fn close_short(out: &mut Message)
     requires open { 29 ≤ length out.old.bytes }
     requires short { length out.old.bytes ≤ 281 }
-    ensures bytes { (a b c d v : ℕ) → (prefixes : List ℕ) → out.old.bytes ≡ short_text a b c d v prefixes →
+    ensures bytes { (total_high total_low field_high field_low value_len : ℕ) → (prefixes : List ℕ) → out.old.bytes ≡ short_text total_high total_low field_high field_low value_len prefixes →
         out.new.bytes ≡ message 2 (body [] (unreach_text prefixes) []) }
     ensures len { length out.new.bytes ≡ length out.old.bytes }
     ensures room { out.new.room ≡ out.old.room }
@@ -196,8 +196,8 @@ fn close_short(out: &mut Message)
 
 fn close_long(out: &mut Message)
     requires long { 282 ≤ length out.old.bytes }
-    ensures bytes { (a b c d f v w : ℕ) → (prefixes : List ℕ) → 282 < length out.old.bytes →
-        out.old.bytes ≡ long_text a b c d f v w prefixes →
+    ensures bytes { (total_high total_low field_high field_low flags value_high value_low : ℕ) → (prefixes : List ℕ) → 282 < length out.old.bytes →
+        out.old.bytes ≡ long_text total_high total_low field_high field_low flags value_high value_low prefixes →
         out.new.bytes ≡ message 2 (body [] (unreach_text prefixes) []) }
     ensures len { length out.new.bytes ≡ length out.old.bytes }
     ensures room { out.new.room ≡ out.old.room }
