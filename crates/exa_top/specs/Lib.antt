@@ -4,4 +4,5 @@ pub mod Encoding
 pub mod Words
 pub mod Top
 pub mod Slots
+pub mod Status
 pub mod Messages

@@ -1,4 +1,6 @@
 //! How a command ends.
+ghost use Rattle.std.specs.Prelude.{◌≡◌};
+ghost use Rattle.std.specs.Option.{option_copied};
 
 /// How a command ended. The number is the exit status of the program.
 #[derive(Clone, Copy, Debug, PartialEq, Eq)]
@@ -18,8 +20,12 @@ pub enum Status {
 }
 
 impl Status {
-    /// The exit status.
-    pub fn number(self) -> u8 {
+    ghost use Rattle.exa_top.specs.Status.{number_of, text_of};
+
+    /// The exit status of the program.
+    pub fn number(self) -> u8
+        ensures { result ≡ number_of self }
+    {
         match self {
             Status::Ok => 0,
             Status::Usage => 2,
@@ -31,7 +37,9 @@ impl Status {
     }
 
     /// The text for standard error, or None where all went well.
-    pub fn text(self) -> Option<&'static str> {
+    pub fn text(self) -> Option<&'static str>
+        ensures { option_copied result ≡ text_of self }
+    {
         match self {
             Status::Ok => None,
             Status::Usage => Some("usage"),

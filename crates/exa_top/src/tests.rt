@@ -159,19 +159,3 @@ fn a_fault_of_the_outside_ends_the_command(rt: HostRuntime) -> Result<(), Fail> 
     assert_eq!(rt; unwritten.writes_failed, 1);
     Ok(())
 }
-
-#[test]
-fn a_status_has_a_number_and_a_text(rt: HostRuntime) {
-    let table = [
-        (Status::Ok, 0, None),
-        (Status::Usage, 2, Some("usage")),
-        (Status::ReadFault, 6, Some("read fault")),
-        (Status::WriteFault, 7, Some("write fault")),
-        (Status::NoMemory, 9, Some("no memory")),
-        (Status::InputLong, 10, Some("input too long")),
-    ];
-    for (status, number, text) in table {
-        assert_eq!(rt; status.number(), number);
-        assert_eq!(rt; status.text(), text);
-    }
-}
