@@ -13,6 +13,7 @@ use Rattle.route_values.proofs.KeyLemmas.{same_block_is, same_block-self}
 use Rattle.update_grammar.specs.declared.effect.Effect.{Effect}
 use Rattle.update_grammar.specs.declared.effect.Effect.TheVariants.{Here}
 use Rattle.update_grammar.specs.Net.{later_of, last_word, effect_says, net}
+use Rattle.exa_top.proofs.NetLemmas.{later_none, last_word-append}
 use Rattle.exa_top.specs.Answers.{Entry, entry_says, hop_wanted}
 use Rattle.exa_top.specs.Encoding.{sent_for, wanted}
 use Rattle.exa_top.specs.Messages.{key_of}
@@ -29,10 +30,6 @@ told side None = None
 told side (Some None) = None
 told side (Some (Some hop)) = Some (Some (sent_for side hop))
 
-later_none : {V : Type 0} (a : Option V) → later_of a None ≡ a
-later_none (Some word) = refl
-later_none None = refl
-
 -- an entry tells nothing of a key that isn't its own
 others_silent : (side : Side) (prefix : Block) (hop : Option ℕ) (key : Key) → same_key (key_of prefix) key ≡ false → last_word effect_says (effects_of side (prefix, hop)) key ≡ None
 others_silent side prefix None key apart = refl
@@ -42,16 +39,6 @@ others_silent side prefix (Some hop) key apart = ap (λ same. cond same (Some (S
 own_told : (side : Side) (prefix : Block) (hop : Option ℕ) (key : Key) → same_key (key_of prefix) key ≡ true → last_word effect_says (effects_of side (prefix, hop)) key ≡ told side (Some hop)
 own_told side prefix None key same = refl
 own_told side prefix (Some hop) key same = ap (λ s. cond s (Some (Some (sent_for side hop))) None) same
-
-later_assoc : {V : Type 0} (a b c : Option V) → later_of (later_of a b) c ≡ later_of a (later_of b c)
-later_assoc (Some word) b c = refl
-later_assoc None b c = refl
-
--- the last word of two lists one behind the other
-last_word-append : {X K V : Type 0} (says : X → K → Option V) (xs ys : List X) (key : K) → last_word says (xs ++ ys) key ≡ later_of (last_word says ys key) (last_word says xs key)
-last_word-append says [] ys key = sym (later_none (last_word says ys key))
-last_word-append says (x ∷ xs) ys key =
-    ap (λ word. later_of word (says x key)) (last_word-append says xs ys key) ∙ later_assoc (last_word says ys key) (last_word says xs key) (says x key)
 
 -- entries whose prefixes differ from one that equals p have none that equals p
 absent : (slots : List (Block × Option ℕ)) (prefix p : Block) → prefix ≡ p → AllByRecursion (λ other. same_block prefix other ≡ false) (keys_of slots) → slot_at slots p ≡ None

@@ -1,6 +1,7 @@
 pub mod CommandLemmas
 pub mod EncodingLemmas
 pub mod LeavesLemmas
+pub mod NetLemmas
 pub mod SendingLemmas
 pub mod SlotLemmas
 pub mod TookLemmas

@@ -1,6 +1,7 @@
 -- Lines that are answered, one and all.
 use Rattle.std.proofs.Common.{ℕ, ◌≡◌, ◌^◌, ◌<◌, Bool, true, false, cond, List, [], ◌∷◌, ◌++◌, Option, Some, None, refl, sym, ap, subst, ◌∙◌, arith, inl, inr, append_assoc, append-nil, if◌then◌else◌}
 use Rattle.std.specs.List.{AllZip, flat_map}
+use Rattle.std.proofs.lemmas.List.{flat_map_more}
 use Rattle.route_values.specs.declared.addr.Family.TheVariants.{Ipv4}
 use Rattle.route_values.specs.Addr.{family_of}
 use Rattle.route_values.specs.Key.{same_block}
@@ -9,6 +10,7 @@ use Rattle.text_forms.specs.Addresses.{IsIpv4, IsPrefixText}
 use Rattle.text_forms.specs.Lines.{Line, Text, TooLong, lines}
 use Rattle.text_forms.specs.Words.{words_of}
 use Rattle.update_grammar.specs.Net.{last_word, later_of}
+use Rattle.exa_top.proofs.NetLemmas.{last_word-push}
 use Rattle.exa_top.specs.declared.answering.Reply.{Reply}
 use Rattle.exa_top.specs.declared.answering.Reply.TheVariants as reply
 use Rattle.exa_top.specs.declared.command.Command.{Command}
@@ -88,20 +90,7 @@ took_none input replies slots quiet empty table = record {
   says = λ prefix. ap (λ s. slot_at s prefix) empty;
 }
 
-later_none : {V : Type 0} (a : Option V) → later_of None a ≡ later_of a None
-later_none (Some word) = refl
-later_none None = refl
-
-later_assoc : {V : Type 0} (a b c : Option V) → later_of (later_of a b) c ≡ later_of a (later_of b c)
-later_assoc (Some word) b c = refl
-later_assoc None b c = refl
-
--- the word of one entry more
-pub last_word-push : {X K V : Type 0} (says : X → K → Option V) (xs : List X) (x : X) (key : K) → last_word says (xs ++ x ∷ []) key ≡ later_of (says x key) (last_word says xs key)
-last_word-push says [] x key = later_none (says x key)
-last_word-push says (first ∷ xs) x key =
-    ap (λ word. later_of word (says first key)) (last_word-push says xs x key) ∙ later_assoc (says x key) (last_word says xs key) (says first key)
-
+-- the answers to the lines so far go on with one entry more
 answered_more : (input : List ℕ) (line : Line) (now after : List Line) (entries others : List Entry) (entry : Entry) → ((all : List Entry) → AllZip Answers now all → AllZip Answers (lines input) (entries ++ all)) → now ≡ line ∷ after
     → Answers line entry → AllZip Answers after others → AllZip Answers (lines input) ((entries ++ entry ∷ []) ++ others)
 answered_more input line now after entries others entry before is answers rest =
@@ -109,18 +98,13 @@ answered_more input line now after entries others entry before is answers rest =
     let Of : List Entry → Type 0 = λ es. AllZip Answers (lines input) es in
     subst Of (sym (append_assoc entries (entry ∷ []) others)) (before (entry ∷ others) (subst Zipped (sym is) (answers, rest)))
 
-flat_map-push : {A : Type 0} (text : A → List ℕ) (xs : List A) (x : A) → flat_map text (xs ++ x ∷ []) ≡ flat_map text xs ++ text x
-flat_map-push text [] x = append-nil (text x)
-flat_map-push text (first ∷ xs) x =
-    ap (λ t. text first ++ t) (flat_map-push text xs x) ∙ sym (append_assoc (text first) (flat_map text xs) (text x))
-
 -- one line more was answered
 pub took_more : (input rest after replies more : List ℕ) (line : Line) (reply : Reply) (slots now : List (Block × Option ℕ)) → TookFront input rest replies slots → lines rest ≡ line ∷ lines after → Took line slots now reply
     → more ≡ replies ++ printed reply → TookFront input after more now
 took_more input rest after replies more line reply slots now front is took text = record {
   entries = front.entries ++ took.entry ∷ [];
   answered = λ others all. answered_more input line (lines rest) (lines after) front.entries others took.entry front.answered is took.answers all;
-  replied = text ∙ ap (λ t. t ++ printed reply) front.replied ∙ ap (λ r. flat_map reply_text front.entries ++ printed r) took.replied ∙ sym (flat_map-push reply_text front.entries took.entry);
+  replied = text ∙ ap (λ t. t ++ printed reply) front.replied ∙ ap (λ r. flat_map reply_text front.entries ++ printed r) took.replied ∙ flat_map_more reply_text [] front.entries took.entry;
   table = took.table;
   says = λ prefix. took.says prefix ∙ ap (later_of (entry_says took.entry prefix)) (front.says prefix) ∙ sym (last_word-push entry_says front.entries took.entry prefix);
 }
