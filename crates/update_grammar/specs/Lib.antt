@@ -9,3 +9,10 @@ pub mod Head
 pub mod Written
 pub mod Net
 pub mod Laws
+pub mod Steps
+pub mod ReadPrefixes
+pub mod ReadValues
+pub mod ReadFamilies
+pub mod ReadAttributes
+pub mod ReadUpdate
+pub mod Gives

@@ -7,7 +7,9 @@
 #![tactic(auto)]
 
 mod effect;
+mod fault;
 mod laws;
 
 pub use effect::{Attr, Effect, Reached};
+pub use fault::{AttrFault, UpdateFault};
 pub use laws::written_is_spelled;

@@ -1,0 +1,89 @@
+//! Why bytes are no path attributes or no body of an UPDATE.
+ghost use Rattle.std.specs.Prelude.{◌≡◌};
+ghost use Rattle.update_grammar.specs.declared.fault.AttrFault.TheVariants as attr_fault;
+ghost use Rattle.update_grammar.specs.declared.fault.UpdateFault.TheVariants as update_fault;
+
+use route_values::NoMemory;
+use std::alloc::{AllocError, AllocFailed};
+use thiserror::Error;
+
+/// The first fault of path attributes, in the order of their bytes. The attributes before the one at fault have none.
+/// Of one attribute, an earlier variant comes before a later one. Offsets are in bytes and count from the front of
+/// what was read.
+#[derive(Clone, Copy, Debug, PartialEq, Eq, Error)]
+pub enum AttrFault {
+    /// The bytes end within the attribute that begins at this offset.
+    #[error("the attribute at {0} is cut")]
+    Cut(usize),
+    /// The attribute at this offset has other optional and transitive bits than its code has, or it isn't optional
+    /// and its code is unknown (RFC 4271, section 6.3).
+    #[error("the flags at {0} are not those of the attribute")]
+    BadFlags(usize),
+    /// The code of the attribute at this offset stood before, whether or not it is known (RFC 4271, section 5).
+    #[error("the attribute at {0} stands twice")]
+    Twice(usize),
+    /// The length at this offset isn't one that the attribute may have, or its parts don't fill it (RFC 4271, section
+    /// 6.3).
+    #[error("the length at {0} is not one of the attribute")]
+    BadLength(usize),
+    /// The value at this offset means nothing: an origin over 2, a segment of no known type or without numbers, a
+    /// next hop of a length that its family doesn't have, or a bad prefix (RFC 4271, section 6.3; RFC 4760, section 7).
+    #[error("the value at {0} means nothing")]
+    BadValue(usize),
+    /// There was no memory for what the attributes say.
+    #[error("no memory")]
+    NoMemory,
+}
+
+/// The first fault of the body of an UPDATE: in the lengths of its fields, then in its withdrawn prefixes, its
+/// attributes, its announced prefixes, and then what is missing. Offsets are in bytes and count from the front of the
+/// body.
+#[derive(Clone, Copy, Debug, PartialEq, Eq, Error)]
+pub enum UpdateFault {
+    /// Its attributes have a fault.
+    #[error("{0}")]
+    Attr(AttrFault),
+    /// The length at this offset is cut, or more than what stands behind it (RFC 4271, section 6.3).
+    #[error("the length at {0} runs past the body")]
+    BadLengths(usize),
+    /// The prefix at this offset, in a field of the body, is cut or counts more bits than its family has. Its
+    /// identifier belongs to it (RFC 4271, section 6.3; RFC 7911, section 3).
+    #[error("the prefix at {0} is no prefix")]
+    BadPrefix(usize),
+    /// Prefixes are announced, or an MP_REACH_NLRI stands, and the attribute of this code isn't there (RFC 4271,
+    /// section 6.3; RFC 4760, section 3). It is the least such code.
+    #[error("attribute {0} is missing")]
+    MissingAttr(u8),
+}
+
+impl From<NoMemory> for AttrFault {
+    ghost from_gives = { λ _ fault. fault ≡ attr_fault.NoMemory };
+
+    fn from(_: NoMemory) -> AttrFault {
+        AttrFault::NoMemory
+    }
+}
+
+impl From<AllocError> for AttrFault {
+    ghost from_gives = { λ _ fault. fault ≡ attr_fault.NoMemory };
+
+    fn from(_: AllocError) -> AttrFault {
+        AttrFault::NoMemory
+    }
+}
+
+impl<T: Drop> From<AllocFailed<T>> for AttrFault {
+    ghost from_gives = { λ _ fault. fault ≡ attr_fault.NoMemory };
+
+    fn from(_: AllocFailed<T>) -> AttrFault {
+        AttrFault::NoMemory
+    }
+}
+
+impl From<NoMemory> for UpdateFault {
+    ghost from_gives = { λ _ fault. fault ≡ update_fault.Attr attr_fault.NoMemory };
+
+    fn from(_: NoMemory) -> UpdateFault {
+        UpdateFault::Attr(AttrFault::NoMemory)
+    }
+}
