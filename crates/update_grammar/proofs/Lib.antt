@@ -1,4 +1,5 @@
 pub mod PiecesLemmas
+pub mod StepsLemmas
 pub mod RawLemmas
 pub mod PrefixLemmas
 pub mod GroupLemmas
