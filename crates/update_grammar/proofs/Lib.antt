@@ -1,5 +1,8 @@
 pub mod PiecesLemmas
 pub mod StepsLemmas
+pub mod ByteLemmas
+pub mod ReadPrefixLemmas
+pub mod ShrinkLemmas
 pub mod RawLemmas
 pub mod PrefixLemmas
 pub mod GroupLemmas

@@ -1,5 +1,5 @@
 -- Items that stand one after another, each of which takes at least one byte.
-use Rattle.std.proofs.Common.{ℕ, zero, suc, ◌≡◌, ◌<◌, ◌≤◌, List, [], ◌∷◌, ◌++◌, length, Result, Ok, Err, arith, length-append, append_assoc, append-nil, ap, sym, ◌∙◌, refl, subst}
+use Rattle.std.proofs.Common.{ℕ, zero, suc, ◌≡◌, ◌<◌, ◌≤◌, List, [], ◌∷◌, ◌++◌, length, Result, Ok, Err, arith, append_assoc, append-nil, ap, sym, ◌∙◌, refl, subst}
 use Rattle.std.specs.List.{flat_map}
 use Rattle.update_grammar.specs.Pieces.{SpellsEach}
 use Rattle.update_grammar.specs.Steps.{◌>>=◌, each_of, each}
