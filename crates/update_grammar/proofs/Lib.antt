@@ -1,8 +1,16 @@
 pub mod PiecesLemmas
 pub mod StepsLemmas
 pub mod ByteLemmas
+pub mod SixteenLemmas
 pub mod ReadPrefixLemmas
 pub mod ShrinkLemmas
+pub mod ReadValueLemmas
+pub mod ReadPathLemmas
+pub mod ReadFamilyLemmas
+pub mod ReadRawLemmas
+pub mod ReadMeaningLemmas
+pub mod ReadAttributesLemmas
+pub mod ReadUpdateLemmas
 pub mod RawLemmas
 pub mod PrefixLemmas
 pub mod GroupLemmas

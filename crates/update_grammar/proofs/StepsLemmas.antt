@@ -2,7 +2,7 @@
 use Rattle.std.proofs.Common.{ℕ, zero, suc, ◌≡◌, ◌<◌, ◌≤◌, List, [], ◌∷◌, ◌++◌, length, Result, Ok, Err, arith, append_assoc, append-nil, ap, sym, ◌∙◌, refl, subst}
 use Rattle.std.specs.List.{flat_map}
 use Rattle.update_grammar.specs.Pieces.{SpellsEach}
-use Rattle.update_grammar.specs.Steps.{◌>>=◌, each_of, each}
+use Rattle.update_grammar.specs.Steps.{◌>>=◌, blamed, each_of, each}
 
 -- a step over what is known and the bytes
 abbrev pub Step : Type 0 → Type 0 → Type 0 → Type 0
@@ -103,6 +103,11 @@ begins_alone (Err e) = refl
 pub bind_ok : {A B E : Type 0} (r : Result A E) (f : A → Result B E) (y : B) → (r >>= f) ≡ Ok y → (x : A) × (r ≡ Ok x) × (f x ≡ Ok y)
 bind_ok (Ok x) f y is = (x, refl, is)
 bind_ok (Err e) f y is = absurd cc
+
+-- and of a fault that is said in other words
+pub blamed_ok : {A D E : Type 0} (say : D → E) (r : Result A D) (x : A) → blamed say r ≡ Ok x → r ≡ Ok x
+blamed_ok say (Ok y) x is = cc
+blamed_ok say (Err d) x is = absurd cc
 
 abbrev done : {A E : Type 0} → E → A → Result A E
 done e x = Ok x

@@ -5,8 +5,10 @@ use Rattle.std.specs.Int.{w16, from_be_bytes}
 use Rattle.route_values.specs.declared.addr.Addr.{Addr}
 use Rattle.route_values.specs.declared.addr.Addr.TheVariants.{V4}
 use Rattle.route_values.specs.declared.addr.Family.TheVariants.{Ipv4}
+use Rattle.route_values.specs.declared.attrs.Origin.{Origin}
 use Rattle.route_values.specs.declared.caps.Caps.{Caps}
 use Rattle.route_values.specs.declared.key.Key.{Key}
+use Rattle.route_values.specs.declared.path.Segment.{Segment}
 use Rattle.update_grammar.specs.declared.effect.Attr.{Attr}
 use Rattle.update_grammar.specs.declared.effect.Effect.{Effect}
 use Rattle.update_grammar.specs.declared.effect.Reached.{Reached}
@@ -35,26 +37,30 @@ field_at bytes =
     let rest = drop 2 bytes in
     if nat_lt (length bytes) (2 + len) then None else Some (take len rest, drop len rest)
 
--- announcements of keys with this next hop: they need ORIGIN and AS_PATH
-abbrev pub announced : List Attr → Addr → List Key → Result (List Effect) UpdateFault
-announced said hop keys = do
+-- ORIGIN and AS_PATH, which announcements need
+abbrev pub needed : List Attr → Result (Origin × List Segment) UpdateFault
+needed said = do
   origin ← ok_or (said_first as_origin said) (fault.MissingAttr 1)
   path ← ok_or (said_first as_path said) (fault.MissingAttr 2)
-  Ok (here_all (gathered said hop origin path) keys)
+  Ok (origin, path)
+
+-- announcements of keys with this next hop
+abbrev pub here_with : List Attr → Addr → List Key → Origin × List Segment → List Effect
+here_with said hop keys both = here_all (gathered said hop both.0 both.1) keys
 
 -- what an MP_REACH_NLRI announces, where there is one: it needs them also for another session's family
 abbrev pub reached_by : List Attr → Option (Option Reached) → Result (List Effect) UpdateFault
 reached_by said None = Ok []
-reached_by said (Some None) = announced said (V4 0) []
-reached_by said (Some (Some reached)) = announced said reached.hop reached.keys
+reached_by said (Some None) = needed said >>= λ both. Ok []
+reached_by said (Some (Some reached)) = needed said >>= λ both. Ok (here_with said reached.hop reached.keys both)
 
 -- what the prefixes behind the attributes announce, where there are any: they need NEXT_HOP too
 abbrev pub announced_by : List Attr → List Key → Result (List Effect) UpdateFault
 announced_by said [] = Ok []
 announced_by said (key ∷ keys) = do
-  bare ← announced said (V4 0) []
+  both ← needed said
   hop ← ok_or (said_first as_next_hop said) (fault.MissingAttr 3)
-  announced said (V4 hop) (key ∷ keys)
+  Ok (here_with said (V4 hop) (key ∷ keys) both)
 
 -- the effects of withdrawn prefixes, attributes and announced prefixes, or the least code that is missing
 unfoldable pub effects_of : List Key → List Attr → List Key → Result (List Effect) UpdateFault

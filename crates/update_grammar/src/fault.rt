@@ -56,6 +56,27 @@ pub enum UpdateFault {
     MissingAttr(u8),
 }
 
+impl AttrFault {
+    ghost use Rattle.std.specs.Prelude.{◌+◌, ◌^◌, ◌<◌};
+    ghost use Rattle.update_grammar.specs.ReadAttributes.{place_of};
+    ghost use Rattle.update_grammar.specs.ReadUpdate.{moved};
+
+    /// The same fault, where its attributes stand so many bytes behind the front of what was read.
+    pub fn moved(self, start: usize) -> AttrFault
+        requires { start + place_of self < 2 ^ 64 }
+        ensures { result ≡ moved start self }
+    {
+        match self {
+            AttrFault::Cut(place) => AttrFault::Cut(start + place),
+            AttrFault::BadFlags(place) => AttrFault::BadFlags(start + place),
+            AttrFault::Twice(place) => AttrFault::Twice(start + place),
+            AttrFault::BadLength(place) => AttrFault::BadLength(start + place),
+            AttrFault::BadValue(place) => AttrFault::BadValue(start + place),
+            AttrFault::NoMemory => AttrFault::NoMemory,
+        }
+    }
+}
+
 impl From<NoMemory> for AttrFault {
     ghost from_gives = { λ _ fault. fault ≡ attr_fault.NoMemory };
 

@@ -12,4 +12,4 @@ mod laws;
 
 pub use effect::{Attr, Effect, Reached};
 pub use fault::{AttrFault, UpdateFault};
-pub use laws::written_is_spelled;
+pub use laws::{reading_is_spelling, written_is_spelled};
