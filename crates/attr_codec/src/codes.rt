@@ -12,8 +12,23 @@ ghost use Rattle.attr_codec.specs.Kind.{flags_of};
 /// The bit of the flags that says that the length has two bytes (RFC 4271, section 4.3).
 pub const EXTENDED_LENGTH: u8 = 0x10;
 
+/// The bit of the flags that says that the attribute is optional (RFC 4271, section 4.3).
+pub const OPTIONAL: u8 = 0x80;
+
+/// How many bits of the flags stand behind optional and transitive.
+pub const KIND_SHIFT: u32 = 6;
+
 /// The greatest length that is written in one byte.
 pub const SHORT_MAX: usize = 255;
+
+/// Where the length of an attribute stands in it (RFC 4271, section 4.3).
+pub const LEN_OFFSET: usize = 2;
+
+/// How many bytes stand before a value: flags, code, and a length of one byte.
+pub const HEAD_LEN: usize = 3;
+
+/// How many bytes stand before a value with a length of two bytes.
+pub const EXTENDED_HEAD_LEN: usize = 4;
 
 /// ORIGIN (RFC 4271, section 5.1.1).
 pub const ORIGIN: u8 = 1;
@@ -74,11 +89,23 @@ pub const EXT_LEN: usize = 8;
 /// How many bytes a large community has (RFC 8092, section 3).
 pub const LARGE_LEN: usize = 12;
 
+/// The AFI of IPv4 (RFC 4760, section 3).
+pub const AFI_IPV4: u16 = 1;
+
+/// The AFI of IPv6 (RFC 4760, section 3).
+pub const AFI_IPV6: u16 = 2;
+
+/// The SAFI of unicast (RFC 4760, section 6).
+pub const UNICAST: u8 = 1;
+
 /// The AFI of IPv6 in two bytes, and the SAFI of unicast (RFC 4760, sections 3 and 6).
 pub const IPV6_UNICAST: [u8; 3] = [0, 2, 1];
 
 /// How many bytes an IPv6 next hop has (RFC 2545, section 3).
 pub const IPV6_HOP_LEN: usize = 16;
+
+/// How many bytes an IPv6 next hop has with a link-local address behind it (RFC 2545, section 3).
+pub const IPV6_HOPS_LEN: usize = 32;
 
 /// The byte between the next hop and the prefixes of an MP_REACH_NLRI (RFC 4760, section 3).
 pub const RESERVED: u8 = 0;
@@ -89,6 +116,18 @@ pub const REACH_FIXED: usize = 5;
 
 /// How many bytes an MP_REACH_NLRI of IPv6 has without prefixes.
 pub const REACH_LEN: usize = REACH_FIXED + IPV6_HOP_LEN;
+
+/// How many bits a byte holds of a prefix (RFC 4271, section 4.3).
+pub const BYTE_BITS: usize = 8;
+
+/// How many bits an IPv4 address has.
+pub const IPV4_BITS: u8 = 32;
+
+/// How many bits an IPv6 address has.
+pub const IPV6_BITS: u8 = 128;
+
+/// How many bytes a path identifier has (RFC 7911, section 3).
+pub const ID_LEN: usize = 4;
 
 /// Which of the two upper bits of its flags an attribute has: optional and transitive (RFC 4271, section 4.3).
 /// A code that isn't listed above is never written.

@@ -3,6 +3,8 @@ ghost use Rattle.route_values.specs.declared.addr.Family.TheVariants.{Ipv4};
 ghost use Rattle.route_values.specs.Addr.{family_of};
 ghost use Rattle.attr_codec.specs.Sizes.{IsShort};
 
+mod reading;
+
 use super::*;
 use route_values::{
     Addr, AsPath, Exts, Family, Items, Larges, NoMemory, Origin, Segment, U32s, WireAttrs,

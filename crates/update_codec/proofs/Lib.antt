@@ -1,2 +1,10 @@
 pub mod WrittenLemmas
+pub mod KeysLemmas
+pub mod OverwriteLemmas
+pub mod AttributeLemmas
 pub mod UnreachLemmas
+pub mod MattersLemmas
+pub mod AnnouncingLemmas
+pub mod WalkLemmas
+pub mod ReachLemmas
+pub mod ReadingLemmas

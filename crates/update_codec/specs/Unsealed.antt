@@ -1,12 +1,8 @@
--- Withdrawals of IPv6 whose lengths and flags may be wrong (RFC 4271, section 4.3; RFC 4760, section 4).
-use Rattle.std.specs.Prelude.{ℕ, List, ◌∷◌, ◌++◌, replicate}
+-- Messages whose lengths may be wrong (RFC 4271, sections 4.1 and 4.3).
+use Rattle.std.specs.Prelude.{ℕ, List, ◌∷◌, ◌++◌}
+use Rattle.std.specs.Int.{w16, to_be_bytes}
+use Rattle.update_grammar.specs.Written.{header}
 
--- with one byte for the length of the MP_UNREACH_NLRI
-abbrev pub short_text : ℕ → ℕ → ℕ → ℕ → ℕ → List ℕ → List ℕ
-short_text total_high total_low field_high field_low value_len prefixes =
-    replicate 16 255 ++ (total_high ∷ total_low ∷ 2 ∷ 0 ∷ 0 ∷ field_high ∷ field_low ∷ 128 ∷ 15 ∷ value_len ∷ 0 ∷ 2 ∷ 1 ∷ prefixes)
-
--- with two bytes for it
-abbrev pub long_text : ℕ → ℕ → ℕ → ℕ → ℕ → ℕ → ℕ → List ℕ → List ℕ
-long_text total_high total_low field_high field_low flags value_high value_low prefixes =
-    replicate 16 255 ++ (total_high ∷ total_low ∷ 2 ∷ 0 ∷ 0 ∷ field_high ∷ field_low ∷ flags ∷ 15 ∷ value_high ∷ value_low ∷ 0 ∷ 2 ∷ 1 ∷ prefixes)
+-- an UPDATE with attributes alone, behind some length of the whole and some length of the attributes
+abbrev pub unsealed : ℕ → ℕ → List ℕ → List ℕ
+unsealed total field attributes = header total 2 ++ (0 ∷ 0 ∷ (to_be_bytes w16 field ++ attributes))

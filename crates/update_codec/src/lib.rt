@@ -1,12 +1,17 @@
-//! UPDATE messages as bytes: announcements, withdrawals and End-of-RIB markers, with their headers.
+//! UPDATE messages as bytes: announcements, withdrawals and End-of-RIB markers are written, with their headers, and
+//! bodies are read into their effects.
 //!
-//! RFC 4271, sections 4.1 and 4.3; RFC 4760 (IPv6); RFC 7911, section 3 (path identifiers); RFC 4724, section 2
-//! (End-of-RIB). The bytes are those that `update_grammar` defines, written into the buffer of `attr_codec`. Nothing
-//! here takes memory, and no message is sent.
+//! RFC 4271, sections 4.1, 4.3 and 6.3; RFC 4760 (IPv6); RFC 7911, section 3 (path identifiers); RFC 4724, section 2
+//! (End-of-RIB). The bytes are those that `update_grammar` defines, in the buffer of `attr_codec`. Writing takes no
+//! memory. No header is read here, and no message is sent.
 #![tactic(auto)]
 
+mod effects;
+mod reading;
 #[cfg(test)]
 mod tests;
 mod writing;
 
-pub use writing::{open_gone, open_here, put_end_of_rib, put_nlri, put_unreach};
+pub use effects::{Announced, Effects, Parts};
+pub use reading::read_update;
+pub use writing::{open_gone, open_here, put_end_of_rib, put_nlri, put_reach, put_unreach};

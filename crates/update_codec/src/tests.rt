@@ -4,6 +4,7 @@ ghost use Rattle.route_values.specs.Addr.{family_of};
 ghost use Rattle.route_values.specs.Path.{AllFilled};
 ghost use Rattle.attr_codec.specs.Sizes.{IsShort};
 
+mod reached;
 mod vectors;
 
 use super::*;

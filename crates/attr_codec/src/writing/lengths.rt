@@ -5,19 +5,13 @@ ghost use Rattle.update_grammar.specs.Written.{attributes_text};
 ghost use Rattle.attr_codec.specs.Sizes.{IsShort, attr_size, size_if, list_size, segment_size, path_size, fixed_size, attributes_size, hop_size};
 
 use crate::codes::{
-    AGGREGATOR_LEN, EXT_LEN, IPV6_HOP_LEN, LARGE_LEN, NUMBER_LEN, REACH_FIXED, SEGMENT_HEAD,
-    SHORT_MAX,
+    AGGREGATOR_LEN, EXT_LEN, EXTENDED_HEAD_LEN, HEAD_LEN, IPV6_HOP_LEN, LARGE_LEN, NUMBER_LEN,
+    REACH_FIXED, SEGMENT_HEAD, SHORT_MAX,
 };
 use route_values::{Addr, AsPath, Family, Segment, WireAttrs};
 
-/// Flags, code and a length of one byte.
-const SHORT_HEAD: usize = 3;
-
-/// Flags, code and a length of two bytes.
-const LONG_HEAD: usize = 4;
-
 /// ORIGIN, whose value is one byte.
-const ORIGIN_LEN: usize = SHORT_HEAD + 1;
+const ORIGIN_LEN: usize = HEAD_LEN + 1;
 
 /// The length of the attributes of an announcement, without prefixes of IPv6, in bytes: 2^64 - 1 stands for any
 /// greater length. `attributes_size` says it by parts.
@@ -76,8 +70,8 @@ fn hop_len(family: Family, hop: Addr) -> usize
         Addr::V6(_) => IPV6_HOP_LEN,
     };
     match family {
-        Family::Ipv4 => SHORT_HEAD + addr,
-        Family::Ipv6 => SHORT_HEAD + REACH_FIXED + addr,
+        Family::Ipv4 => HEAD_LEN + addr,
+        Family::Ipv6 => HEAD_LEN + REACH_FIXED + addr,
     }
 }
 
@@ -86,7 +80,7 @@ fn len_if(stands: bool, len: usize) -> usize
     requires { len ≤ 255 }
     ensures { result ≡ size_if stands len }
 {
-    if stands { SHORT_HEAD + len } else { 0 }
+    if stands { HEAD_LEN + len } else { 0 }
 }
 
 // AS_PATH.
@@ -119,8 +113,8 @@ fn attr_len(len: usize) -> usize
     ensures { result ≡ min (attr_size len) (2 ^ 64 - 1) }
 {
     len.saturating_add(if len > SHORT_MAX {
-        LONG_HEAD
+        EXTENDED_HEAD_LEN
     } else {
-        SHORT_HEAD
+        HEAD_LEN
     })
 }

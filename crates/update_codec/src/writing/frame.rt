@@ -6,10 +6,12 @@
 //! | 16     | 2      | 1    | length: 2 |           | length: 2  |            |          |
 //! +--------+--------+------+-----------+-----------+------------+------------+----------+
 //! ```
-ghost use Rattle.std.specs.Prelude.{◌≡◌, ◌+◌, ◌≤◌, ◌∷◌, [], ◌++◌, length};
+ghost use Rattle.std.specs.Prelude.{ℕ, ◌≡◌, ◌+◌, ◌≤◌, ◌∷◌, [], ◌++◌, List, length};
 ghost use Rattle.std.specs.Int.{w16, to_be_bytes};
-ghost use Rattle.update_grammar.specs.Written.{header};
+ghost use Rattle.update_grammar.specs.Update.{body};
+ghost use Rattle.update_grammar.specs.Written.{header, message};
 ghost use Rattle.attr_codec.specs.Buffer.{HasRoom, Appended};
+ghost use Rattle.update_codec.specs.Unsealed.{unsealed};
 
 use attr_codec::Message;
 
@@ -21,6 +23,9 @@ const UPDATE: u8 = 2;
 
 /// The length of the withdrawn prefixes where there is none.
 const NO_WITHDRAWN: [u8; 2] = [0, 0];
+
+/// Where the length of the attributes stands, if no route is withdrawn (RFC 4271, section 4.3).
+const ATTRIBUTES_LEN: usize = 21;
 
 /// How many bytes an UPDATE has without withdrawn prefixes, attributes and prefixes: a header of 19 bytes and two
 /// lengths (RFC 4271, section 4.3).
@@ -35,6 +40,19 @@ pub fn put_frame(out: &mut Message, len: usize)
     put_header(out, (FRAME_LEN + len) as u16);
     out.append(&NO_WITHDRAWN);
     out.append(&(len as u16).to_be_bytes());
+}
+
+/// Makes the lengths of the attributes and of the message right, where no prefix stands before or behind them.
+pub fn close_attributes(out: &mut Message)
+    requires { 23 ≤ length out.old.bytes }
+    ensures bytes { (total field : ℕ) → (attributes : List ℕ) → out.old.bytes ≡ unsealed total field attributes →
+        out.new.bytes ≡ message 2 (body [] attributes []) }
+    ensures len { length out.new.bytes ≡ length out.old.bytes }
+    ensures room { out.new.room ≡ out.old.room }
+{
+    let len = out.bytes().len() - FRAME_LEN;
+    out.overwrite(ATTRIBUTES_LEN, &(len as u16).to_be_bytes());
+    out.seal();
 }
 
 fn put_header(out: &mut Message, len: u16)

@@ -1,5 +1,5 @@
 //! The text of one prefix, with the identifier exactly where the session has path identifiers for its family.
-ghost use Rattle.std.specs.Prelude.{◌≡◌, ◌≤◌, [], length, if◌then◌else◌};
+ghost use Rattle.std.specs.Prelude.{ℕ, ◌≡◌, ◌+◌, ◌≤◌, [], ◌++◌, List, length, if◌then◌else◌};
 ghost use Rattle.std.specs.Int.{w32, to_be_bytes};
 ghost use Rattle.update_grammar.specs.Prefixes.{bytes_for, key_text, block_text};
 ghost use Rattle.attr_codec.specs.Buffer.{HasRoom, Appended};
@@ -26,6 +26,19 @@ pub fn put_key(out: &mut Message, key: &Key, path: bool)
 {
     put_id(out, key.id, path);
     put_block(out, &key.prefix);
+}
+
+/// Puts a prefix before the byte at `place`.
+pub fn insert_key(out: &mut Message, place: usize, key: &Key, path: bool)
+    requires within { place ≤ length out.old.bytes }
+    requires fits { HasRoom out.old (length (key_text path key.now)) }
+    ensures bytes { (before after : List ℕ) → length before ≡ place → out.old.bytes ≡ before ++ after →
+        out.new.bytes ≡ before ++ (key_text path key.now ++ after) }
+    ensures len { length out.new.bytes ≡ length out.old.bytes + length (key_text path key.now) }
+    ensures room { out.new.room ≡ out.old.room }
+{
+    put_key(out, key, path);
+    out.move_last(place, key_len(key, path));
 }
 
 fn block_len(prefix: &Prefix) -> usize

@@ -1,0 +1,86 @@
+//! Prefixes of an open announcement of IPv6, which stand at the end of its MP_REACH_NLRI (RFC 4760, section 3).
+//!
+//! ```text
+//! +--------+-----------+------------+------------+---------------+------------+
+//! | header | withdrawn | attributes | attributes | MP_REACH_NLRI | attributes |
+//! | 19     | length: 2 | length: 2  |            |               |            |
+//! +--------+-----------+------------+------------+---------------+------------+
+//! ```
+ghost use Rattle.std.specs.Prelude.{ℕ, ◌≡◌, ◌+◌, ◌<◌, ◌≤◌, ◌↔◌, [], ◌∷◌, ◌++◌, List, length, drop, IsTrue};
+ghost use Rattle.std.specs.Bool.{OnTrue, OnFalse};
+ghost use Rattle.route_values.specs.declared.addr.Family.TheVariants.{Ipv6};
+ghost use Rattle.route_values.specs.declared.attrs.WireAttrs.{WireAttrs};
+ghost use Rattle.route_values.specs.declared.key.Key.{Key as RouteKey};
+ghost use Rattle.route_values.specs.Key.{family_of_key};
+ghost use Rattle.update_grammar.specs.Attributes.{Raw, IsRaw, raw_text, optional};
+ghost use Rattle.update_grammar.specs.Head as head;
+ghost use Rattle.update_grammar.specs.Prefixes.{key_text};
+ghost use Rattle.update_grammar.specs.Written.{written, raw};
+ghost use Rattle.attr_codec.specs.Buffer.{HasRoom};
+ghost use Rattle.attr_codec.specs.Groups.{raws_text};
+ghost use Rattle.update_codec.specs.Reach.{IsOpenReach, HasReach};
+
+use super::attribute::{CODE, Place, attribute_len, growth, put_last};
+use super::frame::{FRAME_LEN, close_attributes};
+use super::key::key_len;
+use attr_codec::Message;
+use attr_codec::codes::MP_REACH_NLRI;
+use route_values::{Caps, Family, Key};
+
+/// Puts one more IPv6 prefix into the MP_REACH_NLRI of an announcement, and makes all lengths right. It has its
+/// identifier exactly where the session has path identifiers for IPv6. The length of the MP_REACH_NLRI has two bytes
+/// exactly where its value passes 255 bytes. Answers false, with `out` as it was, exactly where it doesn't fit: it does
+/// where there is room for the prefix and one byte more.
+pub fn put_reach(out: &mut Message, caps: &Caps, key: &Key) -> bool
+    requires family { family_of_key key.now ≡ Ipv6 }
+    requires open { IsOpenReach caps.now out.old.bytes }
+    ensures fits { (w : WireAttrs) → (keys : List RouteKey) → out.old.bytes ≡ written caps.now (head.Here Ipv6 w) keys →
+        IsTrue result ↔ (length (written caps.now (head.Here Ipv6 w) (keys ++ key.now ∷ [])) ≤ out.old.room) }
+    ensures enough { HasRoom out.old (length (key_text caps.now.ipv6_path key.now) + 1) → IsTrue result }
+    ensures ok { OnTrue result ((w : WireAttrs) → (keys : List RouteKey) →
+        out.old.bytes ≡ written caps.now (head.Here Ipv6 w) keys →
+        out.new.bytes ≡ written caps.now (head.Here Ipv6 w) (keys ++ key.now ∷ [])) }
+    ensures least { OnTrue result (length out.old.bytes + length (key_text caps.now.ipv6_path key.now) ≤ length out.new.bytes) }
+    ensures most { OnTrue result (length out.new.bytes ≤ length out.old.bytes + length (key_text caps.now.ipv6_path key.now) + 1) }
+    ensures still_open { IsOpenReach caps.now out.new.bytes }
+    ensures room { out.new.room ≡ out.old.room }
+    ensures refused { OnFalse result (out.new ≡ out.old) }
+{
+    let path = caps.path(Family::Ipv6);
+    let place = reach_place(out.bytes());
+    if out.spare() < growth(place.end - place.start, key_len(key, path)) {
+        return false;
+    }
+    put_last(out, place, MP_REACH_NLRI, key, path);
+    close_attributes(out);
+    true
+}
+
+// Where the MP_REACH_NLRI of a message stands.
+fn reach_place(bytes: &[u8]) -> Place
+    requires { HasReach (drop 23 bytes.now) }
+    ensures start { (has : HasReach (drop 23 bytes.now)) → result.start ≡ 23 + length (raws_text has.raws) }
+    ensures end { (has : HasReach (drop 23 bytes.now)) → result.end ≡ result.start + length (raw_text (raw optional 14 has.value)) }
+    ensures some { result.start + 3 ≤ result.end }
+    ensures within { result.end ≤ length bytes.now }
+{
+    let (_, mut rest) = bytes.split_at(FRAME_LEN);
+    while rest[CODE] != MP_REACH_NLRI {
+        rest = behind_attribute(rest);
+    }
+    let start = bytes.len() - rest.len();
+    Place {
+        start,
+        end: start + attribute_len(rest),
+    }
+}
+
+// What stands behind the attribute at the front.
+fn behind_attribute(bytes: &[u8]) -> &[u8]
+    requires { HasReach bytes.now }
+    ensures rest { (a : Raw) → (rest : List ℕ) → IsRaw a → bytes.now ≡ raw_text a ++ rest → result.now ≡ rest }
+    ensures shorter { length result.now < length bytes.now }
+{
+    let (_, rest) = bytes.split_at(attribute_len(bytes));
+    rest
+}
