@@ -16,8 +16,8 @@ use Rattle.update_grammar.specs.Steps.{◌>>=◌, each}
 use Rattle.update_grammar.proofs.ReadAttributesLemmas.{attrs_found, attrs_only}
 use Rattle.update_grammar.proofs.ShrinkLemmas.{raw_shrinks, attrs_shrink}
 use Rattle.update_grammar.proofs.StepsLemmas.{with_front, begins, goes_on, stops, is_done}
-use Rattle.attr_codec.specs.declared.reading.fault.ValueFault.{ValueFault}
-use Rattle.attr_codec.specs.declared.reading.fault.ValueFault.TheVariants as value_fault
+use Rattle.attr_codec.specs.declared.fault.ValueFault.{ValueFault}
+use Rattle.attr_codec.specs.declared.fault.ValueFault.TheVariants as value_fault
 use Rattle.attr_codec.specs.Faults.{ValueFails, fault_at}
 
 -- whether the code of an attribute stood before

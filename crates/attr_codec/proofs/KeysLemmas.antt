@@ -11,7 +11,7 @@ use Rattle.update_grammar.specs.Steps.{◌>>=◌, each}
 use Rattle.update_grammar.specs.ReadPrefixes.{key_at, key_step, keys_in}
 use Rattle.update_grammar.proofs.StepsLemmas.{with_front, begins_alone, goes_on, stops, is_done}
 use Rattle.update_grammar.proofs.ReadPrefixLemmas.{key_shrinks, keys_shrink, keys_found, keys_only}
-use Rattle.attr_codec.specs.declared.reading.fault.KeysFault.{KeysFault}
+use Rattle.attr_codec.specs.declared.fault.KeysFault.{KeysFault}
 use Rattle.attr_codec.specs.Faults.{KeysGive}
 
 -- what is read from a place in the bytes on, behind the keys so far

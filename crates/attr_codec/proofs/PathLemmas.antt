@@ -9,8 +9,8 @@ use Rattle.update_grammar.specs.Steps.{◌>>=◌, each}
 use Rattle.update_grammar.specs.ReadValues.{Wrong, BadLength, BadValue, Part, part_at, is_segment, segments_of, path_in}
 use Rattle.update_grammar.proofs.StepsLemmas.{each_none, each_one, each_fault}
 use Rattle.update_grammar.proofs.ShrinkLemmas.{parts_shrink}
-use Rattle.attr_codec.specs.declared.reading.fault.ValueFault.{ValueFault}
-use Rattle.attr_codec.specs.declared.reading.fault.ValueFault.TheVariants as fault
+use Rattle.attr_codec.specs.declared.fault.ValueFault.{ValueFault}
+use Rattle.attr_codec.specs.declared.fault.ValueFault.TheVariants as fault
 use Rattle.attr_codec.specs.Faults.{ValueFails}
 use Rattle.attr_codec.specs.Raws.{as_segment, IsTold}
 

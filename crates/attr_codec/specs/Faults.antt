@@ -5,10 +5,10 @@ use Rattle.update_grammar.specs.declared.fault.AttrFault.{AttrFault}
 use Rattle.update_grammar.specs.declared.fault.AttrFault.TheVariants as attr_fault
 use Rattle.update_grammar.specs.ReadAttributes.{head_len}
 use Rattle.update_grammar.specs.ReadValues.{Wrong, BadLength, BadValue}
-use Rattle.attr_codec.specs.declared.reading.fault.KeysFault.{KeysFault}
-use Rattle.attr_codec.specs.declared.reading.fault.KeysFault.TheVariants as keys_fault
-use Rattle.attr_codec.specs.declared.reading.fault.ValueFault.{ValueFault}
-use Rattle.attr_codec.specs.declared.reading.fault.ValueFault.TheVariants as value_fault
+use Rattle.attr_codec.specs.declared.fault.KeysFault.{KeysFault}
+use Rattle.attr_codec.specs.declared.fault.KeysFault.TheVariants as keys_fault
+use Rattle.attr_codec.specs.declared.fault.ValueFault.{ValueFault}
+use Rattle.attr_codec.specs.declared.fault.ValueFault.TheVariants as value_fault
 
 -- a fault is the place that reading gives, but for want of memory, which may come in place of anything
 abbrev pub KeysFail : KeysFault → Result (List Key) ℕ → Type 0

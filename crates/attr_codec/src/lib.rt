@@ -8,13 +8,15 @@
 #![tactic(auto)]
 
 pub mod codes;
+mod fault;
 mod message;
 mod reading;
 #[cfg(test)]
 mod tests;
 mod writing;
 
+pub use fault::KeysFault;
 pub use message::Message;
-pub use reading::{AttrList, KeysFault, read_attrs, read_keys};
+pub use reading::{AttrList, read_attrs, read_keys};
 pub use update_grammar::{Attr, AttrFault, Reached};
 pub use writing::{append_attrs, append_unreach, attrs_len, put_attrs};

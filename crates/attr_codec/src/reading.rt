@@ -8,7 +8,6 @@ ghost use Rattle.update_grammar.specs.ReadAttributes.{attrs_in, place_of};
 mod attribute;
 mod codes;
 mod families;
-mod fault;
 mod numbers;
 mod path;
 mod prefixes;
@@ -17,7 +16,6 @@ mod values;
 
 use attribute::attr_of;
 use codes::Codes;
-pub use fault::KeysFault;
 pub use prefixes::read_keys;
 use raw::raw_at;
 use route_values::{Caps, Items, NoMemory};

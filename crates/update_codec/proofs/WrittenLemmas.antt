@@ -40,11 +40,6 @@ here_framed : (family : Family) (w : WireAttrs) (caps : Caps) → framed (attrib
 here_framed Ipv4 w caps = refl
 here_framed Ipv6 w caps = refl
 
-pub length-here : (family : Family) (w : WireAttrs) (caps : Caps) → length (written caps (head.Here family w) []) ≡ 23 + length (attributes_text family w [])
-length-here family w caps =
-    ap length (sym (frame_before (attributes_text family w []) ∙ here_framed family w caps))
-    ∙ length-append (frame (length (attributes_text family w []))) (attributes_text family w [])
-
 pub here_written : (old mid new : Buffer) (n : ℕ) (family : Family) (w : WireAttrs) (caps : Caps) → n ≡ length (attributes_text family w []) → Appended old mid (frame n) → Appended mid new (attributes_text family w []) → Appended old new (written caps (head.Here family w) [])
 here_written old mid new n family w caps is before after =
     subst (λ t. Appended old new t) (frame_before (attributes_text family w []) ∙ here_framed family w caps)

@@ -14,4 +14,5 @@ mod writing;
 
 pub use effects::{Announced, Effects, Parts};
 pub use reading::read_update;
+pub use update_grammar::{Effect, UpdateFault};
 pub use writing::{open_gone, open_here, put_end_of_rib, put_nlri, put_reach, put_unreach};

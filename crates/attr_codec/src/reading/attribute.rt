@@ -8,7 +8,6 @@ ghost use Rattle.attr_codec.specs.Raws.{raw_of};
 
 use super::codes::{Codes, has_flags};
 use super::families::{reach_in, unreach_in};
-use super::fault::ValueFault;
 use super::path::path_in;
 use super::raw::{RawAttr, is_extended};
 use super::values::{
@@ -19,6 +18,7 @@ use crate::codes::{
     EXTENDED_HEAD_LEN, HEAD_LEN, LARGE_COMMUNITY, LEN_OFFSET, LOCAL_PREF, MP_REACH_NLRI,
     MP_UNREACH_NLRI, MULTI_EXIT_DISC, NEXT_HOP, ORIGIN, ORIGINATOR_ID,
 };
+use crate::fault::ValueFault;
 use route_values::Caps;
 use std::alloc::Global;
 use update_grammar::{Attr, AttrFault};

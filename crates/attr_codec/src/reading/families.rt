@@ -11,10 +11,10 @@ ghost use Rattle.std.specs.Prelude.{◌≡◌, option_and_then};
 ghost use Rattle.update_grammar.specs.ReadFamilies.{family_of_numbers, agreed, hop_in, keys_value, reached_in, reach_in, unreach_in};
 ghost use Rattle.attr_codec.specs.Faults.{ValueGives};
 
-use super::fault::{KeysFault, ValueFault};
 use super::numbers::{u32_from, u128_from};
 use super::prefixes::read_keys;
 use crate::codes::{AFI_IPV4, AFI_IPV6, IPV6_HOP_LEN, IPV6_HOPS_LEN, NUMBER_LEN, UNICAST};
+use crate::fault::{KeysFault, ValueFault};
 use route_values::{Addr, Caps, Family, Keys};
 use std::alloc::Global;
 use update_grammar::Reached;

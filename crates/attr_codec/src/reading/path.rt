@@ -12,9 +12,9 @@ ghost use Rattle.update_grammar.specs.ReadValues.{part_at, path_in};
 ghost use Rattle.attr_codec.specs.Faults.{ValueGives};
 ghost use Rattle.attr_codec.specs.Raws.{part_of, as_segment, IsTold};
 
-use super::fault::ValueFault;
 use super::values::numbers_from;
 use crate::codes::{AS_SEQUENCE, AS_SET, NUMBER_LEN};
+use crate::fault::ValueFault;
 use route_values::{AsPath, NoMemory, Segment, U32s};
 use std::alloc::Global;
 

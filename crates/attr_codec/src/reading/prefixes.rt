@@ -15,9 +15,9 @@ ghost use Rattle.update_grammar.specs.Prefixes.{bytes_for, addr_from, SpellsKey}
 ghost use Rattle.update_grammar.specs.ReadPrefixes.{id_at, block_at, key_at, keys_in};
 ghost use Rattle.attr_codec.specs.Faults.{KeysGive, place_of_keys};
 
-use super::fault::KeysFault;
 use super::numbers::{u32_from, u128_from};
 use crate::codes::{BYTE_BITS, ID_LEN, IPV4_BITS, IPV6_BITS};
+use crate::fault::KeysFault;
 use route_values::{Addr, Family, Key, Keys, Prefix};
 use std::alloc::Global;
 

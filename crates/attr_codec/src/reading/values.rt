@@ -5,9 +5,9 @@ ghost use Rattle.update_grammar.specs.ReadAttributes.{said_as};
 ghost use Rattle.update_grammar.specs.ReadValues.{sized, items_from, number_from, large_from, origin_in, number_in, aggregator_in, numbers_in, exts_in, larges_in};
 ghost use Rattle.attr_codec.specs.Faults.{ValueGives};
 
-use super::fault::ValueFault;
 use super::numbers::u32_from;
 use crate::codes::{AGGREGATOR_LEN, EGP, EXT_LEN, IGP, INCOMPLETE, LARGE_LEN, NUMBER_LEN};
+use crate::fault::ValueFault;
 use route_values::{Aggregator, Exts, Items, Large, Larges, NoMemory, Origin, U32s};
 use std::alloc::{AllocError, Global};
 use update_grammar::Attr;

@@ -1,7 +1,7 @@
 //! Why bytes can't be read.
 ghost use Rattle.std.specs.Prelude.{◌≡◌};
-ghost use Rattle.attr_codec.specs.declared.reading.fault.KeysFault.TheVariants as keys_fault;
-ghost use Rattle.attr_codec.specs.declared.reading.fault.ValueFault.TheVariants as value_fault;
+ghost use Rattle.attr_codec.specs.declared.fault.KeysFault.TheVariants as keys_fault;
+ghost use Rattle.attr_codec.specs.declared.fault.ValueFault.TheVariants as value_fault;
 
 use route_values::NoMemory;
 use std::alloc::{AllocError, AllocFailed};

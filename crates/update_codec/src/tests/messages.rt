@@ -1,0 +1,226 @@
+//! Messages that are written from values and read as the same values.
+ghost use Rattle.std.specs.Prelude.{◌≡◌, All};
+ghost use Rattle.route_values.specs.declared.addr.Family.TheVariants.{Ipv4};
+ghost use Rattle.route_values.specs.Addr.{family_of};
+ghost use Rattle.attr_codec.specs.Sizes.{IsShort};
+
+use super::reached::announce;
+use super::values::{IPV4_NET, Net, effects, keys};
+use super::vectors::{
+    FULL_IDENTIFIED, FULL_IPV4, LONG_PATH, ONE_PREFIX, REACHED, REACHED_BETWEEN,
+    REACHED_IDENTIFIED, THREE_IDENTIFIED, WITHDRAWN_IDENTIFIED_IPV4, WITHDRAWN_IDENTIFIED_IPV6,
+    WITHDRAWN_IPV4, WITHDRAWN_IPV6,
+};
+use super::*;
+
+// What a message does with its keys.
+#[derive(Clone, Copy)]
+enum Head {
+    // Announces them with these attributes and this next hop.
+    Here(Said, Addr),
+    // Withdraws them.
+    Gone(Family),
+    // Is the marker of a family, and has none.
+    End(Family),
+}
+
+struct Row {
+    shows: &'static str,
+    message: &'static [u8],
+    caps: Caps,
+    head: Head,
+    nets: &'static [Net],
+}
+
+const IPV4_SEVENTH: Net = (Addr::V4(0x0A00_0000), 24, 7);
+
+const IPV4_EIGHTH: Net = (Addr::V4(0x0A00_0000), 24, 8);
+
+const IPV4_ALL: Net = (Addr::V4(0), 0, 0);
+
+const THREE_NETS: &[Net] = &[
+    (Addr::V4(0xC633_6407), 32, 7),
+    IPV4_ALL,
+    (Addr::V4(0xCB00_7180), 25, 0x0102_0304),
+];
+
+const IPV6_SEVENTH: Net = (Addr::V6(0x2001_0DB8 << 96), 32, 7);
+
+const IPV6_WHOLE: Net = (IPV6_HOP, 128, u32::MAX);
+
+const MESSAGES: &[Row] = &[
+    Row {
+        shows: "an announcement of one prefix of IPv4",
+        message: ONE_PREFIX,
+        caps: NO_PATHS,
+        head: Head::Here(Said::Least, IPV4_HOP),
+        nets: &[IPV4_NET],
+    },
+    Row {
+        shows: "several prefixes with identifiers",
+        message: THREE_IDENTIFIED,
+        caps: PATHS,
+        head: Head::Here(Said::Least, IPV4_HOP),
+        nets: THREE_NETS,
+    },
+    Row {
+        shows: "an attribute of more than 255 bytes",
+        message: LONG_PATH,
+        caps: NO_PATHS,
+        head: Head::Here(Said::Long, IPV4_HOP),
+        nets: &[IPV4_NET],
+    },
+    Row {
+        shows: "all attributes of a prefix of IPv4",
+        message: FULL_IPV4,
+        caps: NO_PATHS,
+        head: Head::Here(Said::Full, IPV4_HOP),
+        nets: &[IPV4_NET],
+    },
+    Row {
+        shows: "all attributes of a prefix of IPv4 with an identifier",
+        message: FULL_IDENTIFIED,
+        caps: PATHS,
+        head: Head::Here(Said::Full, IPV4_HOP),
+        nets: &[IPV4_SEVENTH],
+    },
+    Row {
+        shows: "an announcement of one prefix of IPv6",
+        message: REACHED,
+        caps: NO_PATHS,
+        head: Head::Here(Said::Least, IPV6_HOP),
+        nets: &[IPV6_NET],
+    },
+    Row {
+        shows: "attributes on both sides of a prefix of IPv6",
+        message: REACHED_BETWEEN,
+        caps: NO_PATHS,
+        head: Head::Here(Said::Full, IPV6_HOP),
+        nets: &[IPV6_NET],
+    },
+    Row {
+        shows: "attributes on both sides of a prefix of IPv6 with an identifier",
+        message: REACHED_IDENTIFIED,
+        caps: PATHS,
+        head: Head::Here(Said::Full, IPV6_HOP),
+        nets: &[IPV6_SEVENTH],
+    },
+    Row {
+        shows: "a withdrawal of a prefix of IPv4",
+        message: WITHDRAWN_IPV4,
+        caps: NO_PATHS,
+        head: Head::Gone(Family::Ipv4),
+        nets: &[IPV4_NET],
+    },
+    Row {
+        shows: "a withdrawal of prefixes of IPv4 with identifiers",
+        message: WITHDRAWN_IDENTIFIED_IPV4,
+        caps: PATHS,
+        head: Head::Gone(Family::Ipv4),
+        nets: &[IPV4_SEVENTH, IPV4_EIGHTH, IPV4_ALL],
+    },
+    Row {
+        shows: "a withdrawal of a prefix of IPv6",
+        message: WITHDRAWN_IPV6,
+        caps: NO_PATHS,
+        head: Head::Gone(Family::Ipv6),
+        nets: &[IPV6_NET],
+    },
+    Row {
+        shows: "a withdrawal of prefixes of IPv6 with identifiers",
+        message: WITHDRAWN_IDENTIFIED_IPV6,
+        caps: PATHS,
+        head: Head::Gone(Family::Ipv6),
+        nets: &[IPV6_SEVENTH, IPV6_WHOLE],
+    },
+    Row {
+        shows: "the marker of IPv4",
+        message: IPV4_MARKER,
+        caps: NO_PATHS,
+        head: Head::End(Family::Ipv4),
+        nets: &[],
+    },
+    Row {
+        shows: "the marker of IPv6",
+        message: IPV6_MARKER,
+        caps: NO_PATHS,
+        head: Head::End(Family::Ipv6),
+        nets: &[],
+    },
+];
+
+// Writes a message.
+fn written(alloc: Global, row: &Row) -> Result<Message, Fail> {
+    let keys = keys(alloc, row.nets)?;
+    Ok(match row.head {
+        Head::Here(said, hop) => announced(&attrs(alloc, said, hop)?, &row.caps, keys.as_slice()),
+        Head::Gone(family) => withdrawn(family, &row.caps, keys.as_slice()),
+        Head::End(family) => marker(family),
+    })
+}
+
+fn announced(attrs: &WireAttrs, caps: &Caps, keys: &[Key]) -> Message
+    requires short { All IsShort attrs.now.path }
+{
+    match attrs.hop.family() {
+        Family::Ipv4 => announced_ipv4(attrs, caps, keys),
+        Family::Ipv6 => {
+            let mut out = Message::new(4096);
+            let _ = announce(&mut out, attrs, caps, keys);
+            out
+        }
+    }
+}
+
+fn announced_ipv4(attrs: &WireAttrs, caps: &Caps, keys: &[Key]) -> Message
+    requires hop { family_of attrs.now.hop ≡ Ipv4 }
+    requires short { All IsShort attrs.now.path }
+{
+    let mut out = opened(attrs, Family::Ipv4);
+    for key in keys {
+        let _ = put_ipv4(&mut out, caps, key);
+    }
+    out
+}
+
+fn withdrawn(family: Family, caps: &Caps, keys: &[Key]) -> Message {
+    let mut out = Message::new(4096);
+    open_gone(&mut out, family);
+    for key in keys {
+        let _ = withdraw(&mut out, caps, key);
+    }
+    out
+}
+
+fn marker(family: Family) -> Message {
+    let mut out = Message::new(4096);
+    let _ = put_end_of_rib(&mut out, family);
+    out
+}
+
+// The effects of a message.
+fn wanted(alloc: Global, row: &Row) -> Result<Effects, Fail> {
+    match row.head {
+        Head::Here(said, hop) => effects(alloc, &[], &[(said, hop, row.nets)]),
+        Head::Gone(_) => effects(alloc, row.nets, &[]),
+        Head::End(_) => effects(alloc, &[], &[]),
+    }
+}
+
+// How many bytes the header of a message has (RFC 4271, section 4.1).
+const HEADER_LEN: usize = 19;
+
+#[test]
+fn messages_are_written_and_read_as_their_values(rt: HostRuntime) -> Result<(), Fail> {
+    let alloc = rt.alloc();
+    for row in MESSAGES {
+        let out = written(alloc, row)?;
+        assert_eq!(rt; out.bytes(), row.message, "{}", row.shows);
+        let body = row.message.get(HEADER_LEN..).ok_or("a header")?;
+        let found = read_update(alloc, body, &row.caps)?;
+        let found = format!(in alloc; "{found:?}")?;
+        let wanted = format!(in alloc; "{:?}", wanted(alloc, row)?)?;
+        assert_eq!(rt; found.as_str(), wanted.as_str(), "{}", row.shows);
+    }
+    Ok(())
+}
