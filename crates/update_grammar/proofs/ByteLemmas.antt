@@ -30,11 +30,6 @@ pub bytes_cons : (byte : ℕ) (bytes : List ℕ) → byte < 256 → IsBytes byte
 bytes_cons byte bytes small are zero = small
 bytes_cons byte bytes small are (suc i) = are i
 
--- bytes before bytes
-pub bytes_append : (front rest : List ℕ) → IsBytes front → IsBytes rest → IsBytes (front ++ rest)
-bytes_append [] rest fronts rests = rests
-bytes_append (byte ∷ front) rest fronts rests = bytes_cons byte (front ++ rest) (fronts 0) (bytes_append front rest (bytes_rest byte front fronts) rests)
-
 -- the front of bytes are bytes
 pub bytes_front : (front rest : List ℕ) → IsBytes (front ++ rest) → IsBytes front
 bytes_front [] rest are = λ i. omega arith
