@@ -1,7 +1,6 @@
 -- What one attribute says, and the loop that reads attributes.
-use Rattle.std.proofs.Common.{ℕ, ◌≡◌, ◌+◌, ◌-◌, ◌<◌, ◌≤◌, ◌==◌, Bool, true, false, List, [], ◌∷◌, ◌++◌, length, Option, Some, None, Result, Ok, Err, arith, ap, sym, ◌∙◌, refl, subst}
+use Rattle.std.proofs.Common.{ℕ, ◌≡◌, ◌+◌, ◌-◌, ◌<◌, ◌≤◌, true, false, List, [], ◌∷◌, ◌++◌, length, Option, Some, None, Result, Ok, Err, arith, ap, sym, ◌∙◌, refl, subst}
 use Rattle.std.specs.Prelude.{option_to_list, IfOk}
-use Rattle.std.specs.List.{list_any}
 use Rattle.std.specs.Option.{ok_or}
 use Rattle.route_values.specs.declared.caps.Caps.{Caps}
 use Rattle.update_grammar.specs.declared.effect.Attr.{Attr}
@@ -13,31 +12,21 @@ use Rattle.update_grammar.specs.Laws.{AreBytes}
 use Rattle.update_grammar.specs.Meanings.{SpellsAttributes}
 use Rattle.update_grammar.specs.ReadAttributes.{Before, flags_of_code, has_flags, raw_at, value_in, attr_of, attr_step, attrs_in}
 use Rattle.update_grammar.specs.Steps.{◌>>=◌, each}
-use Rattle.update_grammar.proofs.ReadAttributesLemmas.{attrs_found, attrs_only}
+use Rattle.update_grammar.proofs.ReadAttributesLemmas.{stood, attrs_found, attrs_only}
 use Rattle.update_grammar.proofs.ShrinkLemmas.{raw_shrinks, attrs_shrink}
 use Rattle.update_grammar.proofs.StepsLemmas.{with_front, begins, goes_on, stops, is_done}
 use Rattle.attr_codec.specs.declared.fault.ValueFault.{ValueFault}
 use Rattle.attr_codec.specs.declared.fault.ValueFault.TheVariants as value_fault
 use Rattle.attr_codec.specs.Faults.{ValueFails, fault_at}
 
--- whether the code of an attribute stood before
-abbrev pub stood : List ℕ → Raw → Bool
-stood codes a = list_any (λ code. code == a.code) codes
-
 -- an attribute whose code stood before
-pub attr_twice : (caps : Caps) (place : ℕ) (codes : List ℕ) (a : Raw) → has_flags (flags_of_code a.code) a.flags ≡ true → stood codes a ≡ true
+pub attr_twice : (caps : Caps) (place : ℕ) (codes : List ℕ) (a : Raw) → has_flags (flags_of_code a.code) a.flags ≡ true → stood codes a.code ≡ true
     → attr_of caps (record { place = place; codes = codes }) a ≡ Err (fault.Twice place)
 unfolding attr_of
 attr_twice caps place codes a flags twice = rw (flags, twice) refl
 
--- an attribute whose value is read
-pub attr_said : (caps : Caps) (place : ℕ) (codes : List ℕ) (a : Raw) (said : Option Attr) → has_flags (flags_of_code a.code) a.flags ≡ true → stood codes a ≡ false → value_in caps a.code a.value ≡ Ok said
-    → attr_of caps (record { place = place; codes = codes }) a ≡ Ok said
-unfolding attr_of
-attr_said caps place codes a said flags new is = rw (flags, new, is) refl
-
 -- an attribute whose value has a fault
-pub attr_blamed : (e : ValueFault) (caps : Caps) (place : ℕ) (codes : List ℕ) (a : Raw) → has_flags (flags_of_code a.code) a.flags ≡ true → stood codes a ≡ false → ValueFails e (value_in caps a.code a.value)
+pub attr_blamed : (e : ValueFault) (caps : Caps) (place : ℕ) (codes : List ℕ) (a : Raw) → has_flags (flags_of_code a.code) a.flags ≡ true → stood codes a.code ≡ false → ValueFails e (value_in caps a.code a.value)
     → AttrFails (fault_at place a.flags e) (attr_of caps (record { place = place; codes = codes }) a)
 unfolding attr_of
 attr_blamed value_fault.BadLength caps place codes a flags new is = rw (flags, new, is) refl

@@ -7,10 +7,10 @@ use Rattle.update_grammar.specs.declared.fault.UpdateFault.{UpdateFault}
 use Rattle.update_grammar.specs.Gives.{UpdateGives}
 use Rattle.update_grammar.specs.ReadUpdate.{effects_in}
 use Rattle.update_grammar.specs.Update.{Spells}
-use Rattle.update_grammar.proofs.ByteLemmas.{IsBytes}
+use Rattle.update_grammar.specs.Laws.{AreBytes}
 use Rattle.update_grammar.proofs.ReadUpdateLemmas.{effects_found}
 
 -- effects that are read are spelled
-pub read_is_spelled : (caps : Caps) (body : List ℕ) (answer : Result (List Effect) UpdateFault) → IsBytes body → UpdateGives (λ effects. effects) answer (effects_in caps body) → IfOk answer (λ effects. Spells caps body effects)
+pub read_is_spelled : (caps : Caps) (body : List ℕ) (answer : Result (List Effect) UpdateFault) → AreBytes body → UpdateGives (λ effects. effects) answer (effects_in caps body) → IfOk answer (λ effects. Spells caps body effects)
 read_is_spelled caps body (Ok effects) are gives = effects_found caps body effects are gives
 read_is_spelled caps body (Err fault) are gives = tt

@@ -2,18 +2,18 @@
 ghost use Rattle.std.specs.Prelude.{◌≡◌, ◌+◌, ◌^◌, ◌<◌, List, length, IfOk, Ok};
 ghost use Rattle.update_grammar.specs.declared.effect.Effect.{Effect};
 ghost use Rattle.update_grammar.specs.Gives.{UpdateGives};
-ghost use Rattle.update_grammar.specs.ReadUpdate.{effects_in, prefixes_in};
+ghost use Rattle.update_grammar.specs.ReadUpdate.{effects_in, prefixes_in, said_in};
 ghost use Rattle.update_grammar.specs.Update.{Spells};
-ghost use Rattle.update_codec.specs.Reading.{said_in};
 
 mod announcing;
 mod fields;
 mod matters;
 
 use crate::effects::Effects;
+use crate::writing::LEN_LEN;
 use announcing::effects_of;
 use attr_codec::{AttrList, KeysFault, read_attrs, read_keys};
-use fields::{LEN_LEN, fields_in};
+use fields::fields_in;
 use route_values::{Caps, Family, Keys};
 use std::alloc::Global;
 use update_grammar::{AttrFault, UpdateFault};

@@ -4,17 +4,14 @@ use Rattle.std.specs.Int.{Width, w16, w32, byte_len, byte_worth, sum_through, to
 use Rattle.std.proofs.lemmas.Bool.{cases_lt}
 use Rattle.std.proofs.lemmas.List.{length-take, get_or-drop, get_or-take, get_or_past, get_or_append_left, take-append-drop}
 use Rattle.std.proofs.lemmas.Nat.{be_bytes_2, be_bytes_4, from_be_bytes-to_be_bytes_2, from_be_bytes-to_be_bytes_4}
-
--- each number is below 256
-abbrev pub IsBytes : List ℕ → Type 0
-IsBytes bytes = (i : ℕ) → get_or bytes i 0 < 256
+use Rattle.update_grammar.specs.Laws.{AreBytes}
 
 -- the last of bytes are bytes
-pub bytes_drop : (n : ℕ) (bytes : List ℕ) → IsBytes bytes → IsBytes (drop n bytes)
+pub bytes_drop : (n : ℕ) (bytes : List ℕ) → AreBytes bytes → AreBytes (drop n bytes)
 bytes_drop n bytes are i = rw get_or-drop (are (n + i))
 
 -- the first of bytes are bytes
-pub bytes_take : (n : ℕ) (bytes : List ℕ) → IsBytes bytes → IsBytes (take n bytes)
+pub bytes_take : (n : ℕ) (bytes : List ℕ) → AreBytes bytes → AreBytes (take n bytes)
 bytes_take n bytes are i =
     elim (cases_lt i n) [
       | inl lt ↦ rw (get_or-take n bytes i 0 lt) (are i)
@@ -22,21 +19,21 @@ bytes_take n bytes are i =
     ]
 
 -- what stands behind a byte are bytes
-pub bytes_rest : (byte : ℕ) (bytes : List ℕ) → IsBytes (byte ∷ bytes) → IsBytes bytes
+pub bytes_rest : (byte : ℕ) (bytes : List ℕ) → AreBytes (byte ∷ bytes) → AreBytes bytes
 bytes_rest byte bytes are i = are (suc i)
 
 -- a byte before bytes
-pub bytes_cons : (byte : ℕ) (bytes : List ℕ) → byte < 256 → IsBytes bytes → IsBytes (byte ∷ bytes)
+pub bytes_cons : (byte : ℕ) (bytes : List ℕ) → byte < 256 → AreBytes bytes → AreBytes (byte ∷ bytes)
 bytes_cons byte bytes small are zero = small
 bytes_cons byte bytes small are (suc i) = are i
 
 -- the front of bytes are bytes
-pub bytes_front : (front rest : List ℕ) → IsBytes (front ++ rest) → IsBytes front
+pub bytes_front : (front rest : List ℕ) → AreBytes (front ++ rest) → AreBytes front
 bytes_front [] rest are = λ i. omega arith
 bytes_front (byte ∷ front) rest are = bytes_cons byte front (are 0) (bytes_front front rest (bytes_rest byte (front ++ rest) are))
 
 -- what stands behind the front of bytes are bytes
-pub bytes_behind : (front rest : List ℕ) → IsBytes (front ++ rest) → IsBytes rest
+pub bytes_behind : (front rest : List ℕ) → AreBytes (front ++ rest) → AreBytes rest
 bytes_behind [] rest are = are
 bytes_behind (byte ∷ front) rest are = bytes_behind front rest (bytes_rest byte (front ++ rest) are)
 
@@ -57,9 +54,9 @@ number_same w bytes others wide same =
 pub record IsWide (w : Width) (limit : ℕ) : Type 0 where
   pub wide : 0 < byte_len w
   pub len : (n : ℕ) → length (to_be_bytes w n) ≡ byte_len w
-  pub back : (bytes : List ℕ) → length bytes ≡ byte_len w → IsBytes bytes → to_be_bytes w (from_be_bytes w bytes) ≡ bytes
+  pub back : (bytes : List ℕ) → length bytes ≡ byte_len w → AreBytes bytes → to_be_bytes w (from_be_bytes w bytes) ≡ bytes
   pub again : (n : ℕ) → n < limit → from_be_bytes w (to_be_bytes w n) ≡ n
-  pub below : (bytes : List ℕ) → IsBytes bytes → from_be_bytes w bytes < limit
+  pub below : (bytes : List ℕ) → AreBytes bytes → from_be_bytes w bytes < limit
 
 -- two bytes
 pub wide16 : IsWide w16 (2 ^ 16)
@@ -94,7 +91,7 @@ pub number_read : (w : Width) (limit : ℕ) → IsWide w limit → (n : ℕ) (re
 number_read w limit is n rest small = number_of_front w limit is (to_be_bytes w n) rest (is.len n) ∙ is.again n small
 
 -- bytes begin with the number that is read
-pub number_written : (w : Width) (limit : ℕ) → IsWide w limit → (bytes : List ℕ) → IsBytes bytes → byte_len w ≤ length bytes → to_be_bytes w (from_be_bytes w bytes) ++ drop (byte_len w) bytes ≡ bytes
+pub number_written : (w : Width) (limit : ℕ) → IsWide w limit → (bytes : List ℕ) → AreBytes bytes → byte_len w ≤ length bytes → to_be_bytes w (from_be_bytes w bytes) ++ drop (byte_len w) bytes ≡ bytes
 number_written w limit is bytes are long =
     let first : to_be_bytes w (from_be_bytes w (take (byte_len w) bytes)) ≡ take (byte_len w) bytes = is.back (take (byte_len w) bytes) (omega (arith, length-take (byte_len w) bytes)) (bytes_take (byte_len w) bytes are) in
     let whole : to_be_bytes w (from_be_bytes w bytes) ≡ take (byte_len w) bytes = ap (to_be_bytes w) (sym (number_of_take w limit is bytes)) ∙ first in

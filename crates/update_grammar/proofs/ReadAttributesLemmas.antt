@@ -11,7 +11,7 @@ use Rattle.update_grammar.specs.Attributes.{Raw, raw_text, IsRaw, AreApart}
 use Rattle.update_grammar.specs.Meanings.{MeansAll, SpellsAttributes}
 use Rattle.update_grammar.specs.Steps.{◌>>=◌, blamed, each_of, each}
 use Rattle.update_grammar.specs.ReadAttributes.{raw_at, has_flags, flags_of_code, value_in, value_fault, attr_of, attr_step, attrs_in, Before}
-use Rattle.update_grammar.proofs.ByteLemmas.{IsBytes}
+use Rattle.update_grammar.specs.Laws.{AreBytes}
 use Rattle.update_grammar.proofs.ReadMeaningLemmas.{Meant, meaning_found, meaning_only, passed_only}
 use Rattle.update_grammar.proofs.ReadPrefixLemmas.{ok_or_some}
 use Rattle.update_grammar.proofs.ReadRawLemmas.{raw_found, raw_only}
@@ -19,7 +19,7 @@ use Rattle.update_grammar.proofs.ShrinkLemmas.{unless_fault, raw_shrinks, attrs_
 use Rattle.update_grammar.proofs.StepsLemmas.{bind_ok, ok_is, blamed_ok, each_none, each_one}
 
 -- whether a code is one of those
-abbrev stood : List ℕ → ℕ → Bool
+abbrev pub stood : List ℕ → ℕ → Bool
 stood codes code = list_any (λ before. before == code) codes
 
 -- the codes of attributes are none of those
@@ -70,7 +70,7 @@ attr_parts caps before a said is =
     (not_false _ flagged.0, new.0, blamed_ok (value_fault before.place a.flags) (value_in caps a.code a.value) said new.1)
 
 -- and back
-attr_whole : (caps : Caps) (before : Before) (a : Raw) (said : Option Attr) → has_flags (flags_of_code a.code) a.flags ≡ true → stood before.codes a.code ≡ false → value_in caps a.code a.value ≡ Ok said
+pub attr_whole : (caps : Caps) (before : Before) (a : Raw) (said : Option Attr) → has_flags (flags_of_code a.code) a.flags ≡ true → stood before.codes a.code ≡ false → value_in caps a.code a.value ≡ Ok said
     → attr_of caps before a ≡ Ok said
 unfolding attr_of
 attr_whole caps before a said flagged new is = rw (flagged, new, is) refl
@@ -106,7 +106,7 @@ nothing_found : (caps : Caps) (codes : List ℕ) → Found caps codes [] []
 nothing_found caps codes = record { raws = []; text = refl; each = tt; once = tt; new = tt; meant = refl }
 
 -- attributes that are read are spelled
-each_found : (caps : Caps) (n : ℕ) (before : Before) (bytes : List ℕ) (said : List (Option Attr)) → length bytes ≤ n → IsBytes bytes → each_of (attr_step caps) n before bytes ≡ Ok said → Found caps before.codes bytes said
+each_found : (caps : Caps) (n : ℕ) (before : Before) (bytes : List ℕ) (said : List (Option Attr)) → length bytes ≤ n → AreBytes bytes → each_of (attr_step caps) n before bytes ≡ Ok said → Found caps before.codes bytes said
 unfolding each_of
 each_found caps zero before [] [] short are is = nothing_found caps before.codes
 each_found caps zero before [] (x ∷ said) short are is = absurd cc
@@ -128,7 +128,7 @@ each_found caps (suc n) before (byte ∷ bytes) said short are is =
     let whole : attr.0 ∷ more.0 ≡ said = ap (λ (o : Option Attr × Before × List ℕ). o.0 ∷ more.0) same ∙ ok_is fault.NoMemory _ _ more.2 in
     subst (Found caps before.codes all) whole (found_more caps before.codes all raw.0.1 raw.0.0 attr.0 more.0 cut.0 cut.1 parts.1 meant others)
 
-pub attrs_found : (caps : Caps) (bytes : List ℕ) (said : List Attr) → IsBytes bytes → attrs_in caps bytes ≡ Ok said → SpellsAttributes caps bytes said
+pub attrs_found : (caps : Caps) (bytes : List ℕ) (said : List Attr) → AreBytes bytes → attrs_in caps bytes ≡ Ok said → SpellsAttributes caps bytes said
 unfolding attrs_in
 attrs_found caps bytes said are is =
     let first : Before = record { place = 0; codes = [] } in

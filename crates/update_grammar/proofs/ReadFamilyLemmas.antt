@@ -20,7 +20,8 @@ use Rattle.update_grammar.specs.Steps.{◌>>=◌, blamed}
 use Rattle.update_grammar.specs.ReadPrefixes.{keys_in}
 use Rattle.update_grammar.specs.ReadValues.{Wrong, BadLength, BadValue}
 use Rattle.update_grammar.specs.ReadFamilies.{family_of_numbers, agreed, agreed_in, keys_value, hop_in, reached_in, where_agreed, reach_in, unreach_in}
-use Rattle.update_grammar.proofs.ByteLemmas.{IsBytes, bytes_take, bytes_drop, bytes_rest, wide32, number_read, number_written}
+use Rattle.update_grammar.specs.Laws.{AreBytes}
+use Rattle.update_grammar.proofs.ByteLemmas.{bytes_take, bytes_drop, bytes_rest, wide32, number_read, number_written}
 use Rattle.update_grammar.proofs.SixteenLemmas.{wide128}
 use Rattle.update_grammar.proofs.ReadPrefixLemmas.{and_then_some, ok_or_some, keys_found, keys_only}
 use Rattle.update_grammar.proofs.ShrinkLemmas.{unless_fault}
@@ -138,7 +139,7 @@ elsewhere_only caps (first ∷ second ∷ third ∷ fourth ∷ front) rest read 
 -- ---- the next hop
 
 -- a next hop that is read is spelled
-hop_found : (family : Family) (text : List ℕ) (hop : Addr) → IsBytes text → hop_in family text ≡ Some hop → SpellsHop family text hop
+hop_found : (family : Family) (text : List ℕ) (hop : Addr) → AreBytes text → hop_in family text ≡ Some hop → SpellsHop family text hop
 hop_found Ipv4 text hop are is =
     let parts = cond_some (eqb (length text) 4) (V4 (from_be_bytes w32 text)) hop is in
     (from_be_bytes w32 text, wide32.below text are, sym parts.1, sym (wide32.back text (eqb-true _ _ parts.0) are))
@@ -175,7 +176,7 @@ blamed_ok say (Ok y) x is = cc
 blamed_ok say (Err d) x is = absurd cc
 
 -- keys that are read within a value are spelled
-keys_value_found : (caps : Caps) (family : Family) (bytes : List ℕ) (keys : List Key) → IsBytes bytes → keys_value caps family bytes ≡ Ok keys → SpellsEach (SpellsKey (has_path caps family) family) bytes keys
+keys_value_found : (caps : Caps) (family : Family) (bytes : List ℕ) (keys : List Key) → AreBytes bytes → keys_value caps family bytes ≡ Ok keys → SpellsEach (SpellsKey (has_path caps family) family) bytes keys
 keys_value_found caps family bytes keys are is = keys_found (has_path caps family) family bytes keys are (blamed_ok (λ place. BadValue) (keys_in (has_path caps family) family bytes) keys is)
 
 -- keys that are spelled within a value are read
@@ -207,7 +208,7 @@ behind_cut front byte rest =
     ap (λ (bytes : List ℕ). drop (length front + 1) bytes) (sym (append_assoc front (byte ∷ []) rest)) ∙ drop_at (front ++ byte ∷ []) rest (length front + 1) (length-append front (byte ∷ []))
 
 -- what is read behind the family is spelled
-reached_found : (caps : Caps) (family : Family) (bytes : List ℕ) (reached : Reached) → IsBytes bytes → reached_in caps family bytes ≡ Ok reached → IsReached caps family bytes reached
+reached_found : (caps : Caps) (family : Family) (bytes : List ℕ) (reached : Reached) → AreBytes bytes → reached_in caps family bytes ≡ Ok reached → IsReached caps family bytes reached
 unfolding reached_in
 reached_found caps family [] reached are is = absurd cc
 reached_found caps family (len ∷ bytes) reached are is =
@@ -218,7 +219,7 @@ reached_found caps family (len ∷ bytes) reached are is =
     let long : len + 2 ≤ length (len ∷ bytes) = ltb-false _ _ parts.0 in
     let hop_len : length (take len bytes) ≡ len = omega (arith, length-take len bytes) in
     let rest : drop (len + 2) (len ∷ bytes) ≡ drop (len + 1) bytes = behind_len len len bytes in
-    let rests : IsBytes bytes = bytes_rest len bytes are in
+    let rests : AreBytes bytes = bytes_rest len bytes are in
     let keys = keys_value_found caps family (drop (len + 1) bytes) second.0 (bytes_drop (len + 1) bytes rests) (ap (keys_value caps family) (sym rest) ∙ second.1) in
     let whole : len ∷ bytes ≡ length (take len bytes) ∷ (take len bytes ++ get_or bytes len 0 ∷ drop (len + 1) bytes) = λ i. sym hop_len i ∷ cut len bytes (omega arith) i in
     let found : IsReached caps family (len ∷ bytes) (record { hop = first.0; keys = second.0 }) = record {
@@ -256,7 +257,7 @@ SaysUnreach caps value None = IsElsewhere caps value
 SaysUnreach caps value (Some keys) = SpellsUnreach caps value keys
 
 -- what is said of a family, with the family
-reach_of : (caps : Caps) (value : List ℕ) (said : Option Reached) → IsBytes value → Says caps value (λ family. reached_in caps family (drop 3 value)) said → SaysReach caps value said
+reach_of : (caps : Caps) (value : List ℕ) (said : Option Reached) → AreBytes value → Says caps value (λ family. reached_in caps family (drop 3 value)) said → SaysReach caps value said
 reach_of caps value None are says = says
 reach_of caps value (Some reached) are says =
     let is = reached_found caps says.0 (drop 3 value) reached (bytes_drop 3 value are) says.3 in
@@ -272,7 +273,7 @@ reach_of caps value (Some reached) are says =
     }
 
 -- an MP_REACH_NLRI that is read is spelled
-pub reach_found : (caps : Caps) (value : List ℕ) (said : Option Reached) → IsBytes value → reach_in caps value ≡ Ok said → SaysReach caps value said
+pub reach_found : (caps : Caps) (value : List ℕ) (said : Option Reached) → AreBytes value → reach_in caps value ≡ Ok said → SaysReach caps value said
 unfolding reach_in
 reach_found caps value said are is = reach_of caps value said are (behind_found caps value (λ family. reached_in caps family (drop 3 value)) said is)
 
@@ -290,7 +291,7 @@ reach_only caps value (Some reached) says =
     ap (λ (value : List ℕ). read_behind caps value (λ family. reached_in caps family (drop 3 value))) says.text ∙ behind_only caps says.family bytes (λ family. reached_in caps family (drop 3 whole)) reached says.agreed read
 
 -- what is said of a family, with the family
-unreach_of : (caps : Caps) (value : List ℕ) (said : Option (List Key)) → IsBytes value → Says caps value (λ family. keys_value caps family (drop 3 value)) said → SaysUnreach caps value said
+unreach_of : (caps : Caps) (value : List ℕ) (said : Option (List Key)) → AreBytes value → Says caps value (λ family. keys_value caps family (drop 3 value)) said → SaysUnreach caps value said
 unreach_of caps value None are says = says
 unreach_of caps value (Some keys) are says = record {
   family = says.0;
@@ -301,7 +302,7 @@ unreach_of caps value (Some keys) are says = record {
 }
 
 -- an MP_UNREACH_NLRI that is read is spelled
-pub unreach_found : (caps : Caps) (value : List ℕ) (said : Option (List Key)) → IsBytes value → unreach_in caps value ≡ Ok said → SaysUnreach caps value said
+pub unreach_found : (caps : Caps) (value : List ℕ) (said : Option (List Key)) → AreBytes value → unreach_in caps value ≡ Ok said → SaysUnreach caps value said
 unfolding unreach_in
 unreach_found caps value said are is = unreach_of caps value said are (behind_found caps value (λ family. keys_value caps family (drop 3 value)) said is)
 

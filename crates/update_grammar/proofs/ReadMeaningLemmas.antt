@@ -13,7 +13,7 @@ use Rattle.update_grammar.specs.Meanings.{Is, Means}
 use Rattle.update_grammar.specs.ReadValues.{Wrong, BadLength, sized, origin_in, path_in, number_in, aggregator_in, numbers_in, exts_in, larges_in}
 use Rattle.update_grammar.specs.ReadFamilies.{reach_in, unreach_in}
 use Rattle.update_grammar.specs.ReadAttributes.{flags_of_code, has_flags, said_as, value_in}
-use Rattle.update_grammar.proofs.ByteLemmas.{IsBytes}
+use Rattle.update_grammar.specs.Laws.{AreBytes}
 use Rattle.update_grammar.proofs.PiecesLemmas.{all_map}
 use Rattle.update_grammar.proofs.StepsLemmas.{bind_ok, ok_is}
 use Rattle.update_grammar.proofs.ReadValueLemmas as values
@@ -108,7 +108,7 @@ beside : {A B C : Type 0} → A → B × C → (A × B) × C
 beside of found = ((of, found.0), found.1)
 
 -- what is read of each code is meant
-module _ (caps : Caps) (flags : ℕ) (value : List ℕ) (said : Option Attr) (are : IsBytes value) where
+module _ (caps : Caps) (flags : ℕ) (value : List ℕ) (said : Option Attr) (are : AreBytes value) where
   origin_meant : Found caps flags value said 1
   unfolding value_in
   origin_meant flagged is = meant_at caps flags 1 value said transitive says.Origin (origin_in value) (λ origin read of. (of, values.origin_found value origin read)) flagged is
@@ -177,7 +177,7 @@ other_meant caps flags code value said none flagged is =
     subst (Meant caps (raw_of flags code value)) nothing (ltb-false flags optional above, not_known code none)
 
 -- what is read of an attribute is meant by it
-pub meaning_found : (caps : Caps) (a : Raw) (said : Option Attr) → IsBytes a.value → has_flags (flags_of_code a.code) a.flags ≡ true → value_in caps a.code a.value ≡ Ok said → Meant caps a said
+pub meaning_found : (caps : Caps) (a : Raw) (said : Option Attr) → AreBytes a.value → has_flags (flags_of_code a.code) a.flags ≡ true → value_in caps a.code a.value ≡ Ok said → Meant caps a said
 meaning_found caps a said are = by_code (Found caps a.flags a.value said) known_codes (codes_meant caps a.flags a.value said are) a.code (other_meant caps a.flags a.code a.value said)
 
 -- ---- what is meant is read

@@ -8,7 +8,8 @@ use Rattle.update_grammar.specs.Pieces.{SpellsEach}
 use Rattle.update_grammar.specs.Steps.{◌>>=◌, each}
 use Rattle.update_grammar.specs.Values.{IsNumber, number_text, numbers_text, segment_text, path_text, IsSegment}
 use Rattle.update_grammar.specs.ReadValues.{Wrong, BadLength, BadValue, number_from, items_from, Part, part_at, is_segment, segments_of, path_in}
-use Rattle.update_grammar.proofs.ByteLemmas.{IsBytes, bytes_take, bytes_drop}
+use Rattle.update_grammar.specs.Laws.{AreBytes}
+use Rattle.update_grammar.proofs.ByteLemmas.{bytes_take, bytes_drop}
 use Rattle.update_grammar.proofs.StepsLemmas.{Takes, Reads, each_found, each_only, bind_ok, ok_is}
 use Rattle.update_grammar.proofs.ShrinkLemmas.{unless_fault, parts_shrink}
 use Rattle.update_grammar.proofs.ReadValueLemmas.{number_code, items_length, whole_items_found, whole_items_only, when_is}
@@ -22,7 +23,7 @@ abbrev SpellsPart : List ℕ → Part → Type 0
 SpellsPart text part = (text ≡ part_text part) × (length part.numbers ≤ 255) × AllByRecursion IsNumber part.numbers
 
 -- the numbers of a part that is read
-numbers_of_part : (count : ℕ) (bytes : List ℕ) → IsBytes bytes → 4 * count ≤ length bytes
+numbers_of_part : (count : ℕ) (bytes : List ℕ) → AreBytes bytes → 4 * count ≤ length bytes
     → (take (4 * count) bytes ≡ numbers_text (items_from 4 number_from (take (4 * count) bytes))) × (length (items_from 4 number_from (take (4 * count) bytes)) ≡ count) × AllByRecursion IsNumber (items_from 4 number_from (take (4 * count) bytes))
 numbers_of_part count bytes are long =
     let field : List ℕ = take (4 * count) bytes in
@@ -34,10 +35,10 @@ numbers_of_part count bytes are long =
 
 -- what a part takes
 abbrev PartTaken : List ℕ → Part × Unit {0} × List ℕ → Type 0
-PartTaken bytes one = (text : List ℕ) × (bytes ≡ text ++ one.2) × SpellsPart text one.0 × IsBytes one.2
+PartTaken bytes one = (text : List ℕ) × (bytes ≡ text ++ one.2) × SpellsPart text one.0 × AreBytes one.2
 
 -- a part that is read is spelled
-part_taken : Takes IsBytes SpellsPart part_at
+part_taken : Takes AreBytes SpellsPart part_at
 unfolding part_at
 part_taken known [] one are read = absurd cc
 part_taken known (kind ∷ []) one are read = absurd cc
@@ -98,11 +99,11 @@ segments_found bytes (part ∷ parts) path spelled read =
     subst (λ segments. (bytes ≡ path_text segments) × AllByRecursion IsSegment segments) (ok_is BadValue (segment_of part ∷ steps.0) path steps.2) (whole, (first.1, others.1))
 
 -- a path that is read is spelled
-pub path_found : (value : List ℕ) (path : List Segment) → IsBytes value → path_in value ≡ Ok path → (value ≡ path_text path) × AllByRecursion IsSegment path
+pub path_found : (value : List ℕ) (path : List Segment) → AreBytes value → path_in value ≡ Ok path → (value ≡ path_text path) × AllByRecursion IsSegment path
 unfolding path_in
 path_found value path are read =
     let steps = bind_ok (each part_at tt value) segments_of path read in
-    segments_found value steps.0 path (each_found IsBytes SpellsPart part_at part_taken parts_shrink tt value steps.0 are steps.1) steps.2
+    segments_found value steps.0 path (each_found AreBytes SpellsPart part_at part_taken parts_shrink tt value steps.0 are steps.1) steps.2
 
 -- the part that a segment is
 abbrev part_of : Segment → Part

@@ -13,7 +13,8 @@ use Rattle.update_grammar.specs.Pieces.{SpellsEach}
 use Rattle.update_grammar.specs.Prefixes.{bytes_for, addr_from, SpellsBlock, SpellsId, SpellsKey}
 use Rattle.update_grammar.specs.Steps.{◌>>=◌}
 use Rattle.update_grammar.specs.ReadPrefixes.{id_at, block_at, key_at, key_step, keys_in}
-use Rattle.update_grammar.proofs.ByteLemmas.{IsBytes, bytes_behind, wide32, number_read, number_written}
+use Rattle.update_grammar.specs.Laws.{AreBytes}
+use Rattle.update_grammar.proofs.ByteLemmas.{bytes_behind, wide32, number_read, number_written}
 use Rattle.update_grammar.proofs.StepsLemmas.{Shrinks, Takes, Reads, each_found, each_only, bind_ok, ok_is}
 
 -- the value of an option that is there
@@ -39,7 +40,7 @@ abbrev pub Front : {X : Type 0} → (List ℕ → X → Type 0) → List ℕ →
 Front Piece bytes one = (text : List ℕ) × (bytes ≡ text ++ one.1) × Piece text one.0
 
 -- an identifier that is read is spelled
-id_found : (path : Bool) (bytes : List ℕ) (one : ℕ × List ℕ) → IsBytes bytes → id_at path bytes ≡ Some one → Front (SpellsId path) bytes one
+id_found : (path : Bool) (bytes : List ℕ) (one : ℕ × List ℕ) → AreBytes bytes → id_at path bytes ≡ Some one → Front (SpellsId path) bytes one
 id_found true bytes one are is =
     let parts = unless (nat_lt (length bytes) 4) (Some (from_be_bytes w32 bytes, drop 4 bytes)) one is in
     let long : 4 ≤ length bytes = ltb-false _ _ parts.0 in
@@ -79,7 +80,7 @@ block_only family text rest b spelled =
     ap (λ front. block_at family (front ++ rest)) spelled.1 ∙ rw (fits, long, same, drop_at field rest (bytes_for b.len) spelled.3) refl
 
 -- a key that is read is spelled
-key_found : (path : Bool) (family : Family) (bytes : List ℕ) (one : Key × List ℕ) → IsBytes bytes → key_at path family bytes ≡ Some one → Front (SpellsKey path family) bytes one
+key_found : (path : Bool) (family : Family) (bytes : List ℕ) (one : Key × List ℕ) → AreBytes bytes → key_at path family bytes ≡ Some one → Front (SpellsKey path family) bytes one
 unfolding key_at
 key_found path family bytes one are is =
     let first = and_then_some (λ id. option_map (λ block. (record { prefix = block.0; id = id.0 }, block.1)) (block_at family id.1)) (id_at path bytes) one is in
@@ -127,22 +128,22 @@ keys_shrink path family = record {
       omega (arith, key_shrinks path family bytes first.0 (ok_or_some _ _ _ first.1), ap length rest);
 }
 
-keys_taken : (path : Bool) (family : Family) → Takes IsBytes (SpellsKey path family) (key_step path family)
+keys_taken : (path : Bool) (family : Family) → Takes AreBytes (SpellsKey path family) (key_step path family)
 keys_taken path family place bytes one are is =
     let first = bind_ok (ok_or (key_at path family bytes) place) (λ (got : Key × List ℕ). Ok (got.0, place + (length bytes - length got.1), got.1)) one is in
     let same : (first.0.0, place + (length bytes - length first.0.1), first.0.1) ≡ one = ok_is place _ _ first.2 in
     let front = key_found path family bytes first.0 are (ok_or_some _ _ _ first.1) in
-    let behind : IsBytes first.0.1 = bytes_behind front.0 first.0.1 (subst IsBytes front.1 are) in
-    subst (λ (o : Key × ℕ × List ℕ). (text : List ℕ) × (bytes ≡ text ++ o.2) × SpellsKey path family text o.0 × IsBytes o.2) same (front.0, front.1, front.2, behind)
+    let behind : AreBytes first.0.1 = bytes_behind front.0 first.0.1 (subst AreBytes front.1 are) in
+    subst (λ (o : Key × ℕ × List ℕ). (text : List ℕ) × (bytes ≡ text ++ o.2) × SpellsKey path family text o.0 × AreBytes o.2) same (front.0, front.1, front.2, behind)
 
 keys_read : (path : Bool) (family : Family) → Reads (SpellsKey path family) (key_step path family)
 keys_read path family place text rest key spelled =
     (place + (length (text ++ rest) - length rest), ap (λ (one : Option (Key × List ℕ)). ok_or one place >>= λ got. Ok (got.0, place + (length (text ++ rest) - length got.1), got.1)) (key_only path family text rest key spelled))
 
 -- keys that are read are spelled
-pub keys_found : (path : Bool) (family : Family) (bytes : List ℕ) (keys : List Key) → IsBytes bytes → keys_in path family bytes ≡ Ok keys → SpellsEach (SpellsKey path family) bytes keys
+pub keys_found : (path : Bool) (family : Family) (bytes : List ℕ) (keys : List Key) → AreBytes bytes → keys_in path family bytes ≡ Ok keys → SpellsEach (SpellsKey path family) bytes keys
 unfolding keys_in
-keys_found path family bytes keys are is = each_found IsBytes (SpellsKey path family) (key_step path family) (keys_taken path family) (keys_shrink path family) 0 bytes keys are is
+keys_found path family bytes keys are is = each_found AreBytes (SpellsKey path family) (key_step path family) (keys_taken path family) (keys_shrink path family) 0 bytes keys are is
 
 -- keys that are spelled are read
 pub keys_only : (path : Bool) (family : Family) (bytes : List ℕ) (keys : List Key) → SpellsEach (SpellsKey path family) bytes keys → keys_in path family bytes ≡ Ok keys

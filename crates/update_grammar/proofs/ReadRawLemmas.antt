@@ -7,7 +7,8 @@ use Rattle.std.proofs.lemmas.List.{length-append, length-take, take-append-drop,
 use Rattle.std.proofs.lemmas.Option.{same_Some}
 use Rattle.update_grammar.specs.Attributes.{Raw, is_extended, raw_text, IsRaw}
 use Rattle.update_grammar.specs.ReadAttributes.{len_at, raw_with, raw_at}
-use Rattle.update_grammar.proofs.ByteLemmas.{IsBytes, bytes_take, bytes_drop, bytes_rest, wide16, number_read, number_written}
+use Rattle.update_grammar.specs.Laws.{AreBytes}
+use Rattle.update_grammar.proofs.ByteLemmas.{bytes_take, bytes_drop, bytes_rest, wide16, number_read, number_written}
 use Rattle.update_grammar.proofs.ReadPrefixLemmas.{and_then_some, unless}
 
 -- a length as it's written
@@ -18,10 +19,10 @@ len_text extended len = if extended then to_be_bytes w16 len else len ∷ []
 record HasLen (extended : Bool) (bytes : List ℕ) (len : ℕ × List ℕ) : Type 0 where
   pub text : bytes ≡ len_text extended len.0 ++ len.1
   pub fits : len.0 < (if extended then 2 ^ 16 else 256)
-  pub rest : IsBytes len.1
+  pub rest : AreBytes len.1
 
 -- a length that is read is written so
-len_found : (extended : Bool) (bytes : List ℕ) (len : ℕ × List ℕ) → IsBytes bytes → len_at extended bytes ≡ Some len → HasLen extended bytes len
+len_found : (extended : Bool) (bytes : List ℕ) (len : ℕ × List ℕ) → AreBytes bytes → len_at extended bytes ≡ Some len → HasLen extended bytes len
 len_found true bytes len are read =
     let parts = unless (ltb (length bytes) 2) (Some (from_be_bytes w16 bytes, drop 2 bytes)) len read in
     let has : HasLen true bytes (from_be_bytes w16 bytes, drop 2 bytes) = record { text = sym (number_written w16 (2 ^ 16) wide16 bytes are (ltb-false _ _ parts.0)); fits = wide16.below bytes are; rest = bytes_drop 2 bytes are } in
@@ -44,7 +45,7 @@ len_only false len rest fits =
 
 -- an attribute that is read, and what is behind it
 abbrev IsTaken : List ℕ → Raw × List ℕ → Type 0
-IsTaken bytes one = (bytes ≡ raw_text one.0 ++ one.1) × IsRaw one.0 × IsBytes one.1 × IsBytes one.0.value
+IsTaken bytes one = (bytes ≡ raw_text one.0 ++ one.1) × IsRaw one.0 × AreBytes one.1 × AreBytes one.0.value
 
 -- behind its flags, its code and its length
 with_found : (flags code : ℕ) (bytes : List ℕ) (len : ℕ × List ℕ) (one : Raw × List ℕ) → flags < 256 → code < 256 → HasLen (is_extended flags) bytes len → raw_with flags code len ≡ Some one → IsTaken (flags ∷ code ∷ bytes) one
@@ -63,7 +64,7 @@ with_found flags code bytes len one small_flags small_code has read =
     subst (IsTaken (flags ∷ code ∷ bytes)) (same_Some _ _ parts.1) taken
 
 -- what is read is the text of an attribute
-pub raw_found : (bytes : List ℕ) (a : Raw) (rest : List ℕ) → IsBytes bytes → raw_at bytes ≡ Some (a, rest) → (bytes ≡ raw_text a ++ rest) × IsRaw a × IsBytes rest × IsBytes a.value
+pub raw_found : (bytes : List ℕ) (a : Raw) (rest : List ℕ) → AreBytes bytes → raw_at bytes ≡ Some (a, rest) → (bytes ≡ raw_text a ++ rest) × IsRaw a × AreBytes rest × AreBytes a.value
 unfolding raw_at
 raw_found [] a rest are read = absurd cc
 raw_found (flags ∷ []) a rest are read = absurd cc

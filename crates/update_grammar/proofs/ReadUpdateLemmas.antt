@@ -16,17 +16,17 @@ use Rattle.update_grammar.specs.declared.effect.Effect.{Effect}
 use Rattle.update_grammar.specs.declared.effect.Reached.{Reached}
 use Rattle.update_grammar.specs.declared.fault.UpdateFault.TheVariants as fault
 use Rattle.update_grammar.specs.Pieces.{counted}
-use Rattle.update_grammar.specs.Steps.{◌>>=◌, blamed}
-use Rattle.update_grammar.specs.ReadAttributes.{attrs_in}
-use Rattle.update_grammar.specs.ReadUpdate.{moved, field_at, needed, here_with, reached_by, announced_by, effects_of, prefixes_in, Fields, fields_in, effects_in}
+use Rattle.update_grammar.specs.Steps.{◌>>=◌}
+use Rattle.update_grammar.specs.ReadUpdate.{moved, field_at, needed, here_with, reached_by, announced_by, effects_of, prefixes_in, said_in, Fields, fields_in, effects_in}
 use Rattle.update_grammar.specs.Update.{body, IsBody, said_first, as_origin, as_path, as_next_hop, as_reach, as_unreach, gathered, HasOriginAndPath, here_all, gone_all, unreached, Announces, Reaches, Spells}
-use Rattle.update_grammar.proofs.ByteLemmas.{IsBytes, bytes_front, bytes_behind, wide16, number_read, number_written}
+use Rattle.update_grammar.specs.Laws.{AreBytes}
+use Rattle.update_grammar.proofs.ByteLemmas.{bytes_front, bytes_behind, wide16, number_read, number_written}
 use Rattle.update_grammar.proofs.ReadAttributesLemmas.{attrs_found, attrs_only}
 use Rattle.update_grammar.proofs.ReadPrefixLemmas.{ok_or_some, unless, keys_found, keys_only}
 use Rattle.update_grammar.proofs.StepsLemmas.{bind_ok, ok_is, blamed_ok}
 
 -- a field that is read stands behind its length
-field_found : (bytes : List ℕ) (one : List ℕ × List ℕ) → IsBytes bytes → field_at bytes ≡ Some one → (bytes ≡ counted one.0 ++ one.1) × (length one.0 < 2 ^ 16) × IsBytes one.0 × IsBytes one.1
+field_found : (bytes : List ℕ) (one : List ℕ × List ℕ) → AreBytes bytes → field_at bytes ≡ Some one → (bytes ≡ counted one.0 ++ one.1) × (length one.0 < 2 ^ 16) × AreBytes one.0 × AreBytes one.1
 unfolding field_at
 field_found bytes one are is =
     let len : ℕ = from_be_bytes w16 bytes in
@@ -39,10 +39,10 @@ field_found bytes one are is =
     sym front ∙ ap (λ more. to_be_bytes w16 len ++ more) (sym (take-append-drop len (drop 2 bytes))) ∙ sym (append_assoc (to_be_bytes w16 len) (take len (drop 2 bytes)) (drop len (drop 2 bytes)))
     ∙ ap (λ n. (to_be_bytes w16 n ++ take len (drop 2 bytes)) ++ drop len (drop 2 bytes)) (sym size) in
     let fits : length (take len (drop 2 bytes)) < 2 ^ 16 = omega (arith, size, wide16.below bytes are) in
-    let counted_are : IsBytes (counted (take len (drop 2 bytes))) = bytes_front (counted (take len (drop 2 bytes))) (drop len (drop 2 bytes)) (subst IsBytes whole are) in
-    let field_are : IsBytes (take len (drop 2 bytes)) = bytes_behind (to_be_bytes w16 (length (take len (drop 2 bytes)))) (take len (drop 2 bytes)) counted_are in
-    let rest_are : IsBytes (drop len (drop 2 bytes)) = bytes_behind (counted (take len (drop 2 bytes))) (drop len (drop 2 bytes)) (subst IsBytes whole are) in
-    subst (λ (o : List ℕ × List ℕ). (bytes ≡ counted o.0 ++ o.1) × (length o.0 < 2 ^ 16) × IsBytes o.0 × IsBytes o.1) (same_Some _ _ parts.1) (whole, fits, field_are, rest_are)
+    let counted_are : AreBytes (counted (take len (drop 2 bytes))) = bytes_front (counted (take len (drop 2 bytes))) (drop len (drop 2 bytes)) (subst AreBytes whole are) in
+    let field_are : AreBytes (take len (drop 2 bytes)) = bytes_behind (to_be_bytes w16 (length (take len (drop 2 bytes)))) (take len (drop 2 bytes)) counted_are in
+    let rest_are : AreBytes (drop len (drop 2 bytes)) = bytes_behind (counted (take len (drop 2 bytes))) (drop len (drop 2 bytes)) (subst AreBytes whole are) in
+    subst (λ (o : List ℕ × List ℕ). (bytes ≡ counted o.0 ++ o.1) × (length o.0 < 2 ^ 16) × AreBytes o.0 × AreBytes o.1) (same_Some _ _ parts.1) (whole, fits, field_are, rest_are)
 
 -- a field behind its length is read
 field_only : (field rest : List ℕ) → length field < 2 ^ 16 → field_at (counted field ++ rest) ≡ Some (field, rest)
@@ -56,7 +56,7 @@ field_only field rest fits =
     rw (len, long, behind, take_at field rest (length field) refl, drop_at field rest (length field) refl) refl
 
 -- the fields that are read are those of the body
-fields_found : (bytes : List ℕ) (fields : Fields) → IsBytes bytes → fields_in bytes ≡ Ok fields → IsBody bytes fields.withdrawn fields.attributes fields.announced × IsBytes fields.withdrawn × IsBytes fields.attributes × IsBytes fields.announced
+fields_found : (bytes : List ℕ) (fields : Fields) → AreBytes bytes → fields_in bytes ≡ Ok fields → IsBody bytes fields.withdrawn fields.attributes fields.announced × AreBytes fields.withdrawn × AreBytes fields.attributes × AreBytes fields.announced
 unfolding fields_in
 fields_found bytes fields are is =
     let first = bind_ok (ok_or (field_at bytes) (fault.BadLengths 0)) (λ (one : List ℕ × List ℕ). ok_or (field_at one.1) (fault.BadLengths (2 + length one.0)) >>= λ two. Ok (record { withdrawn = one.0; attributes = two.0; announced = two.1 })) fields is in
@@ -66,7 +66,7 @@ fields_found bytes fields are is =
     let found : Fields = record { withdrawn = first.0.0; attributes = second.0.0; announced = second.0.1 } in
     let text : bytes ≡ body first.0.0 second.0.0 second.0.1 = one.0 ∙ ap (λ more. counted first.0.0 ++ more) two.0 ∙ sym (append_assoc (counted first.0.0) (counted second.0.0) second.0.1) in
     let is_body : IsBody bytes first.0.0 second.0.0 second.0.1 = record { text = text; withdrawn_fits = one.1; attributes_fit = two.1 } in
-    subst (λ (f : Fields). IsBody bytes f.withdrawn f.attributes f.announced × IsBytes f.withdrawn × IsBytes f.attributes × IsBytes f.announced) (ok_is (fault.BadLengths 0) found fields second.2) (is_body, one.2, two.2, two.3)
+    subst (λ (f : Fields). IsBody bytes f.withdrawn f.attributes f.announced × AreBytes f.withdrawn × AreBytes f.attributes × AreBytes f.announced) (ok_is (fault.BadLengths 0) found fields second.2) (is_body, one.2, two.2, two.3)
 
 fields_only : (bytes withdrawn attributes behind : List ℕ) → IsBody bytes withdrawn attributes behind → fields_in bytes ≡ Ok (record { withdrawn = withdrawn; attributes = attributes; announced = behind })
 unfolding fields_in
@@ -146,14 +146,14 @@ parts_only gone said here effects reached news reaches announces all =
     rw (reached_only said (said_first as_reach said) reached reaches, announces_only said here news announces) (ap (λ e. Ok e) (sym all))
 
 -- effects that are read are spelled
-pub effects_found : (caps : Caps) (bytes : List ℕ) (effects : List Effect) → IsBytes bytes → effects_in caps bytes ≡ Ok effects → Spells caps bytes effects
+pub effects_found : (caps : Caps) (bytes : List ℕ) (effects : List Effect) → AreBytes bytes → effects_in caps bytes ≡ Ok effects → Spells caps bytes effects
 unfolding effects_in
 effects_found caps bytes effects are is =
     let start : Fields → ℕ = λ (f : Fields). 4 + length f.withdrawn in
-    let fields = bind_ok (fields_in bytes) (λ (f : Fields). prefixes_in caps 2 f.withdrawn >>= λ gone. blamed (λ of_attrs. fault.Attr (moved (start f) of_attrs)) (attrs_in caps f.attributes) >>= λ said. prefixes_in caps (start f + length f.attributes) f.announced >>= λ here. effects_of gone said here) effects is in
+    let fields = bind_ok (fields_in bytes) (λ (f : Fields). prefixes_in caps 2 f.withdrawn >>= λ gone. said_in caps (start f) f.attributes >>= λ said. prefixes_in caps (start f + length f.attributes) f.announced >>= λ here. effects_of gone said here) effects is in
     let f : Fields = fields.0 in
-    let gone = bind_ok (prefixes_in caps 2 f.withdrawn) (λ (keys : List Key). blamed (λ of_attrs. fault.Attr (moved (start f) of_attrs)) (attrs_in caps f.attributes) >>= λ said. prefixes_in caps (start f + length f.attributes) f.announced >>= λ here. effects_of keys said here) effects fields.2 in
-    let said = bind_ok (blamed (λ of_attrs. fault.Attr (moved (start f) of_attrs)) (attrs_in caps f.attributes)) (λ (attrs : List Attr). prefixes_in caps (start f + length f.attributes) f.announced >>= λ here. effects_of gone.0 attrs here) effects gone.2 in
+    let gone = bind_ok (prefixes_in caps 2 f.withdrawn) (λ (keys : List Key). said_in caps (start f) f.attributes >>= λ said. prefixes_in caps (start f + length f.attributes) f.announced >>= λ here. effects_of keys said here) effects fields.2 in
+    let said = bind_ok (said_in caps (start f) f.attributes) (λ (attrs : List Attr). prefixes_in caps (start f + length f.attributes) f.announced >>= λ here. effects_of gone.0 attrs here) effects gone.2 in
     let here = bind_ok (prefixes_in caps (start f + length f.attributes) f.announced) (λ (keys : List Key). effects_of gone.0 said.0 keys) effects said.2 in
     let split = fields_found bytes f are fields.1 in
     let parts = parts_found gone.0 said.0 here.0 effects here.2 in

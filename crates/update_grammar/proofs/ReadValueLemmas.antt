@@ -14,15 +14,16 @@ use Rattle.route_values.specs.declared.attrs.Origin.TheVariants.{Igp, Egp, Incom
 use Rattle.update_grammar.specs.Values.{IsNumber, number_text, numbers_text, origin_number, aggregator_text, IsAggregator, exts_text, IsExt, large_text, larges_text, IsLarge}
 use Rattle.update_grammar.specs.ReadValues.{Wrong, BadLength, BadValue, number_from, sized, items_from, listed, origin_of, origin_in, number_in, aggregator_in, numbers_in, exts_in, large_from, larges_in}
 use Rattle.update_grammar.proofs.StepsLemmas.{bind_ok}
-use Rattle.update_grammar.proofs.ByteLemmas.{IsBytes, bytes_take, bytes_drop, wide32, number_read, number_written}
+use Rattle.update_grammar.specs.Laws.{AreBytes}
+use Rattle.update_grammar.proofs.ByteLemmas.{bytes_take, bytes_drop, wide32, number_read, number_written}
 
 -- an item of so many bytes: how it is read from them and how it is written
 pub record IsCode {A : Type 0} (width : ℕ) (say : List ℕ → A) (text : A → List ℕ) (Fit : A → Type 0) : Type 0 where
   pub filled : 0 < width
   pub len : (x : A) → Fit x → length (text x) ≡ width
   pub again : (x : A) → Fit x → say (text x) ≡ x
-  pub back : (bytes : List ℕ) → length bytes ≡ width → IsBytes bytes → text (say bytes) ≡ bytes
-  pub fits : (bytes : List ℕ) → length bytes ≡ width → IsBytes bytes → Fit (say bytes)
+  pub back : (bytes : List ℕ) → length bytes ≡ width → AreBytes bytes → text (say bytes) ≡ bytes
+  pub fits : (bytes : List ℕ) → length bytes ≡ width → AreBytes bytes → Fit (say bytes)
 
 -- the value that is read where a test holds
 pub when_ok : {A : Type 0} (b : Bool) (x y : A) (wrong : Wrong) → (if b then Ok x else Err wrong) ≡ Ok y → (b ≡ true) × (x ≡ y)
@@ -38,7 +39,7 @@ when_is false r y wrong read = absurd cc
 
 module _ {A : Type 0} (width : ℕ) (say : List ℕ → A) (text : A → List ℕ) (Fit : A → Type 0) (code : IsCode width say text Fit) where
   -- an item that is read is spelled
-  pub sized_found : (value : List ℕ) (x : A) → IsBytes value → sized width say value ≡ Ok x → (value ≡ text x) × Fit x
+  pub sized_found : (value : List ℕ) (x : A) → AreBytes value → sized width say value ≡ Ok x → (value ≡ text x) × Fit x
   sized_found value x are read =
       let parts = when_ok (eqb (length value) width) (say value) x BadLength read in
       let len : length value ≡ width = eqb-true _ _ parts.0 in
@@ -50,12 +51,12 @@ module _ {A : Type 0} (width : ℕ) (say : List ℕ → A) (text : A → List �
       rw (eq-eqb (length (text x)) width (code.len x fit), code.again x fit) refl
 
   -- the items that are read from bytes are spelled by them
-  items_found : (count : ℕ) (bytes : List ℕ) → IsBytes bytes → length bytes ≡ count * width
+  items_found : (count : ℕ) (bytes : List ℕ) → AreBytes bytes → length bytes ≡ count * width
       → (bytes ≡ flat_map text (map say (first_chunks width count bytes))) × AllByRecursion Fit (map say (first_chunks width count bytes))
   items_found zero bytes are len = (nil_from_length bytes (omega arith), tt)
   items_found (suc count) bytes are len =
       let front : length (take width bytes) ≡ width = omega (arith, length-take width bytes) in
-      let fronts : IsBytes (take width bytes) = bytes_take width bytes are in
+      let fronts : AreBytes (take width bytes) = bytes_take width bytes are in
       let others = items_found count (drop width bytes) (bytes_drop width bytes are) (omega (arith, length-drop width bytes)) in
       let first : take width bytes ≡ text (say (take width bytes)) = sym (code.back (take width bytes) front fronts) in
       let whole : bytes ≡ text (say (take width bytes)) ++ flat_map text (map say (first_chunks width count (drop width bytes))) =
@@ -79,7 +80,7 @@ module _ {A : Type 0} (width : ℕ) (say : List ℕ → A) (text : A → List �
       rw (first, others, code.again x fit.0, items_again xs fit.1) refl
 
   -- bytes that are a number of whole items are spelled by them
-  pub whole_items_found : (bytes : List ℕ) → IsBytes bytes → length bytes % width ≡ 0
+  pub whole_items_found : (bytes : List ℕ) → AreBytes bytes → length bytes % width ≡ 0
       → (bytes ≡ flat_map text (items_from width say bytes)) × AllByRecursion Fit (items_from width say bytes)
   whole_items_found bytes are whole =
       items_found (length bytes / width) bytes are (omega (arith, div-add-mod' (length bytes) width))
@@ -91,7 +92,7 @@ module _ {A : Type 0} (width : ℕ) (say : List ℕ → A) (text : A → List �
       ap (λ many. map say (first_chunks width many (flat_map text xs))) count ∙ items_again xs fit
 
   -- a list that is read is spelled
-  pub listed_found : (value : List ℕ) (xs : List A) → IsBytes value → listed width say value ≡ Ok xs
+  pub listed_found : (value : List ℕ) (xs : List A) → AreBytes value → listed width say value ≡ Ok xs
       → (value ≡ flat_map text xs) × AllByRecursion Fit xs
   listed_found value xs are read =
       let parts = when_ok (eqb (length value % width) 0) (items_from width say value) xs BadLength read in
@@ -126,11 +127,11 @@ ext_code = record {
 }
 
 -- four bytes are the text of their number
-last_number : (bytes : List ℕ) → IsBytes bytes → length bytes ≡ 4 → number_text (number_from bytes) ≡ bytes
+last_number : (bytes : List ℕ) → AreBytes bytes → length bytes ≡ 4 → number_text (number_from bytes) ≡ bytes
 last_number bytes are len = wide32.back bytes len are
 
 -- bytes begin with the text of their number
-first_number : (bytes : List ℕ) → IsBytes bytes → 4 ≤ length bytes → number_text (number_from bytes) ++ drop 4 bytes ≡ bytes
+first_number : (bytes : List ℕ) → AreBytes bytes → 4 ≤ length bytes → number_text (number_from bytes) ++ drop 4 bytes ≡ bytes
 first_number bytes are long = number_written w32 (2 ^ 32) wide32 bytes are long
 
 -- an AS number and an address that are written are read again
@@ -159,7 +160,7 @@ large_again large fit =
     λ i. record { global = global i; first = first i; second = second i }
 
 -- twelve bytes are the text of the three numbers that they hold
-large_back : (bytes : List ℕ) → length bytes ≡ 12 → IsBytes bytes → large_text (large_from bytes) ≡ bytes
+large_back : (bytes : List ℕ) → length bytes ≡ 12 → AreBytes bytes → large_text (large_from bytes) ≡ bytes
 large_back bytes len are =
     let fours : drop 4 (drop 4 bytes) ≡ drop 8 bytes = drop-drop 4 4 bytes in
     let last : number_text (number_from (drop 8 bytes)) ≡ drop 8 bytes = last_number (drop 8 bytes) (bytes_drop 8 bytes are) (omega (arith, length-drop 8 bytes)) in
@@ -181,7 +182,7 @@ large_code = record {
 -- ---- whole values
 
 -- a number that is read is spelled
-pub number_found : (value : List ℕ) (n : ℕ) → IsBytes value → number_in value ≡ Ok n → (value ≡ number_text n) × IsNumber n
+pub number_found : (value : List ℕ) (n : ℕ) → AreBytes value → number_in value ≡ Ok n → (value ≡ number_text n) × IsNumber n
 unfolding number_in
 number_found value n are read = sized_found 4 number_from number_text IsNumber number_code value n are read
 
@@ -191,7 +192,7 @@ unfolding number_in
 number_only n fit = sized_only 4 number_from number_text IsNumber number_code n fit
 
 -- an aggregator that is read is spelled
-pub aggregator_found : (value : List ℕ) (by : Aggregator) → IsBytes value → aggregator_in value ≡ Ok by → (value ≡ aggregator_text by) × IsAggregator by
+pub aggregator_found : (value : List ℕ) (by : Aggregator) → AreBytes value → aggregator_in value ≡ Ok by → (value ≡ aggregator_text by) × IsAggregator by
 unfolding aggregator_in
 aggregator_found value by are read = sized_found 8 (λ bytes. record { asn = number_from bytes; addr = number_from (drop 4 bytes) }) aggregator_text IsAggregator aggregator_code value by are read
 
@@ -201,7 +202,7 @@ unfolding aggregator_in
 aggregator_only by fit = sized_only 8 (λ bytes. record { asn = number_from bytes; addr = number_from (drop 4 bytes) }) aggregator_text IsAggregator aggregator_code by fit
 
 -- numbers that are read are spelled
-pub numbers_found : (value : List ℕ) (ns : List ℕ) → IsBytes value → numbers_in value ≡ Ok ns → (value ≡ numbers_text ns) × AllByRecursion IsNumber ns
+pub numbers_found : (value : List ℕ) (ns : List ℕ) → AreBytes value → numbers_in value ≡ Ok ns → (value ≡ numbers_text ns) × AllByRecursion IsNumber ns
 unfolding numbers_in
 numbers_found value ns are read = listed_found 4 number_from number_text IsNumber number_code value ns are read
 
@@ -211,7 +212,7 @@ unfolding numbers_in
 numbers_only ns fit = listed_only 4 number_from number_text IsNumber number_code ns fit
 
 -- extended communities that are read are spelled
-pub exts_found : (value : List ℕ) (exts : List (List ℕ)) → IsBytes value → exts_in value ≡ Ok exts → (value ≡ exts_text exts) × AllByRecursion IsExt exts
+pub exts_found : (value : List ℕ) (exts : List (List ℕ)) → AreBytes value → exts_in value ≡ Ok exts → (value ≡ exts_text exts) × AllByRecursion IsExt exts
 unfolding exts_in
 exts_found value exts are read = listed_found 8 (λ bytes. bytes) (λ ext. ext) IsExt ext_code value exts are read
 
@@ -221,7 +222,7 @@ unfolding exts_in
 exts_only exts fit = listed_only 8 (λ bytes. bytes) (λ ext. ext) IsExt ext_code exts fit
 
 -- large communities that are read are spelled
-pub larges_found : (value : List ℕ) (larges : List Large) → IsBytes value → larges_in value ≡ Ok larges → (value ≡ larges_text larges) × AllByRecursion IsLarge larges
+pub larges_found : (value : List ℕ) (larges : List Large) → AreBytes value → larges_in value ≡ Ok larges → (value ≡ larges_text larges) × AllByRecursion IsLarge larges
 unfolding larges_in
 larges_found value larges are read = listed_found 12 large_from large_text IsLarge large_code value larges are read
 

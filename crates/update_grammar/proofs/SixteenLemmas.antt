@@ -4,7 +4,8 @@ use Rattle.std.specs.Int.{w64, w128, to_be_bytes, from_be_bytes}
 use Rattle.std.proofs.lemmas.List.{take-append-drop, get_or-drop, get_or-take}
 use Rattle.std.proofs.lemmas.Nat.{be_bytes_8, shr_high}
 use Rattle.std.proofs.Math.Nat.{div-div-eq-div-mul}
-use Rattle.update_grammar.proofs.ByteLemmas.{IsBytes, IsWide, number_same, bytes_take, bytes_drop}
+use Rattle.update_grammar.specs.Laws.{AreBytes}
+use Rattle.update_grammar.proofs.ByteLemmas.{IsWide, number_same, bytes_take, bytes_drop}
 
 -- a number that is written is read again
 sixteen_again : (n : ℕ) → n < 2 ^ 128 → from_be_bytes w128 (to_be_bytes w128 n) ≡ n
@@ -38,23 +39,23 @@ joined bytes =
     omega (arith, front, behind 0, behind 1, behind 2, behind 3, behind 4, behind 5, behind 6, behind 7)
 
 -- a number of eight bytes is below 2 ^ 64
-eight_below : (bytes : List ℕ) → IsBytes bytes → from_be_bytes w64 bytes < 2 ^ 64
+eight_below : (bytes : List ℕ) → AreBytes bytes → from_be_bytes w64 bytes < 2 ^ 64
 eight_below bytes are = omega (arith, are 0, are 1, are 2, are 3, are 4, are 5, are 6, are 7)
 
 -- bytes are written again
-sixteen_back : (bytes : List ℕ) → length bytes ≡ 16 → IsBytes bytes → to_be_bytes w128 (from_be_bytes w128 bytes) ≡ bytes
+sixteen_back : (bytes : List ℕ) → length bytes ≡ 16 → AreBytes bytes → to_be_bytes w128 (from_be_bytes w128 bytes) ≡ bytes
 sixteen_back bytes len are =
     let high : List ℕ = take 8 bytes in
     let low : List ℕ = drop 8 bytes in
-    let highs : IsBytes high = bytes_take 8 bytes are in
-    let lows : IsBytes low = bytes_drop 8 bytes are in
+    let highs : AreBytes high = bytes_take 8 bytes are in
+    let lows : AreBytes low = bytes_drop 8 bytes are in
     let high_back : to_be_bytes w64 (from_be_bytes w64 high) ≡ high = be_bytes_8 high _ (omega (arith, length-take 8 bytes)) highs refl in
     let low_back : to_be_bytes w64 (from_be_bytes w64 low) ≡ low = be_bytes_8 low _ (omega (arith, length-drop 8 bytes)) lows refl in
     let both : to_be_bytes w64 (from_be_bytes w64 high) ++ to_be_bytes w64 (from_be_bytes w64 low) ≡ high ++ low = λ i. high_back i ++ low_back i in
     ap (to_be_bytes w128) (joined bytes) ∙ halves (from_be_bytes w64 high) (from_be_bytes w64 low) (eight_below low lows) ∙ both ∙ take-append-drop 8 bytes
 
 -- bytes are a number below 2 ^ 128
-sixteen_below : (bytes : List ℕ) → IsBytes bytes → from_be_bytes w128 bytes < 2 ^ 128
+sixteen_below : (bytes : List ℕ) → AreBytes bytes → from_be_bytes w128 bytes < 2 ^ 128
 sixteen_below bytes are =
     omega (arith, joined bytes, eight_below (take 8 bytes) (bytes_take 8 bytes are), eight_below (drop 8 bytes) (bytes_drop 8 bytes are))
 

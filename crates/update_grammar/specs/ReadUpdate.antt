@@ -73,6 +73,10 @@ effects_of gone said here = do
 abbrev pub prefixes_in : Caps → ℕ → List ℕ → Result (List Key) UpdateFault
 prefixes_in caps start bytes = blamed (λ place. fault.BadPrefix (start + place)) (keys_in caps.ipv4_path Ipv4 bytes)
 
+-- attributes that begin so many bytes behind the front
+abbrev pub said_in : Caps → ℕ → List ℕ → Result (List Attr) UpdateFault
+said_in caps start bytes = blamed (λ of_attrs. fault.Attr (moved start of_attrs)) (attrs_in caps bytes)
+
 -- the three fields of a body
 pub record Fields : Type 0 where
   pub withdrawn : List ℕ
@@ -90,6 +94,6 @@ unfoldable pub effects_in : Caps → List ℕ → Result (List Effect) UpdateFau
 effects_in caps bytes = do
   fields ← fields_in bytes
   gone ← prefixes_in caps 2 fields.withdrawn
-  said ← blamed (λ of_attrs. fault.Attr (moved (4 + length fields.withdrawn) of_attrs)) (attrs_in caps fields.attributes)
+  said ← said_in caps (4 + length fields.withdrawn) fields.attributes
   here ← prefixes_in caps (4 + length fields.withdrawn + length fields.attributes) fields.announced
   effects_of gone said here

@@ -9,16 +9,17 @@ ghost use Rattle.update_codec.specs.Matters.{needed_in, attrs_in, reached_from, 
 
 use super::matters::{Matters, Told};
 use crate::effects::{Announced, Effects};
+use attr_codec::AttrList;
 use attr_codec::codes::{AS_PATH, NEXT_HOP, ORIGIN};
 use route_values::{Addr, AsPath, Items, Keys, NoMemory, Origin, WireAttrs};
 use std::alloc::Global;
-use update_grammar::{Attr, Reached, UpdateFault};
+use update_grammar::{Reached, UpdateFault};
 
 /// The effects of withdrawn keys, of attributes, and of announced keys, or the least code that is missing.
 pub fn effects_of(
     alloc: Global,
     gone: Keys,
-    said: Items<Attr>,
+    said: AttrList,
     here: Keys,
 ) -> Result<Effects, UpdateFault>
     ensures { UpdateGives (λ e. e) result (effects_of gone said here) }

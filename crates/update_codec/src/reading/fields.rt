@@ -11,10 +11,8 @@ ghost use Rattle.update_grammar.specs.Gives.{UpdateGives};
 ghost use Rattle.update_grammar.specs.ReadUpdate.{field_at, fields_in};
 ghost use Rattle.update_codec.specs.Fields.{fields_view};
 
+use crate::writing::LEN_LEN;
 use update_grammar::UpdateFault;
-
-/// How many bytes the length of a field has (RFC 4271, section 4.3).
-pub const LEN_LEN: usize = 2;
 
 /// The fields of a body.
 #[derive(Clone, Copy, Debug)]

@@ -2,6 +2,7 @@
 ghost use Rattle.std.specs.Prelude.{◌≡◌, []};
 ghost use Rattle.update_codec.specs.Matters.{matters_of, told_of, with_attr};
 
+use attr_codec::AttrList;
 use route_values::{Aggregator, AsPath, Exts, Items, Keys, Larges, Origin, U32s};
 use std::alloc::Global;
 use update_grammar::{Attr, Reached};
@@ -57,7 +58,7 @@ impl Matters {
 
 impl Told {
     /// What these attributes say. No memory is taken.
-    pub fn of(alloc: Global, said: Items<Attr>) -> Told
+    pub fn of(alloc: Global, said: AttrList) -> Told
         ensures { result ≡ told_of said }
     {
         let mut told = Told {

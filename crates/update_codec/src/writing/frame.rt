@@ -27,6 +27,9 @@ const NO_WITHDRAWN: [u8; 2] = [0, 0];
 /// Where the length of the attributes stands, if no route is withdrawn (RFC 4271, section 4.3).
 const ATTRIBUTES_LEN: usize = 21;
 
+/// How many bytes the length of a field has (RFC 4271, section 4.3).
+pub const LEN_LEN: usize = 2;
+
 /// How many bytes an UPDATE has without withdrawn prefixes, attributes and prefixes: a header of 19 bytes and two
 /// lengths (RFC 4271, section 4.3).
 pub const FRAME_LEN: usize = 23;

@@ -5,10 +5,8 @@ ghost use Rattle.update_grammar.specs.Prefixes.{bytes_for, key_text, block_text}
 ghost use Rattle.attr_codec.specs.Buffer.{HasRoom, Appended};
 
 use attr_codec::Message;
+use attr_codec::codes::{BYTE_BITS, ID_LEN};
 use route_values::{Addr, Key, Prefix};
-
-/// How many bytes a path identifier has (RFC 7911, section 3).
-const ID_LEN: usize = 4;
 
 /// How many bytes a prefix takes: its identifier, a bit count, and the fewest bytes that hold so many bits.
 pub fn key_len(key: &Key, path: bool) -> usize
@@ -52,7 +50,7 @@ fn block_len(prefix: &Prefix) -> usize
 fn bytes_of(bits: u8) -> usize
     ensures { result ≡ bytes_for bits }
 {
-    usize::from(bits).div_ceil(8)
+    usize::from(bits).div_ceil(BYTE_BITS)
 }
 
 fn put_id(out: &mut Message, id: u32, path: bool)

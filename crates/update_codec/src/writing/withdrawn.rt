@@ -24,7 +24,7 @@ ghost use Rattle.attr_codec.specs.Buffer.{HasRoom};
 ghost use Rattle.update_codec.specs.Sizes.{empty_size, unreach_growth};
 
 use super::attribute::{Place, growth, put_last};
-use super::frame::{FRAME_LEN, close_attributes};
+use super::frame::{FRAME_LEN, LEN_LEN, close_attributes};
 use super::key::{insert_key, key_len};
 use attr_codec::Message;
 use attr_codec::codes::MP_UNREACH_NLRI;
@@ -32,9 +32,6 @@ use route_values::{Caps, Family, Key};
 
 /// Where the length of the withdrawn routes stands (RFC 4271, section 4.3).
 const WITHDRAWN_LEN: usize = 19;
-
-/// How many bytes the length of the attributes has (RFC 4271, section 4.3).
-const LEN_LEN: usize = 2;
 
 /// Puts one more prefix into a withdrawal of its family, and makes all lengths right. It has its identifier exactly
 /// where the session has path identifiers for the family. The length of an MP_UNREACH_NLRI has two bytes exactly where

@@ -1,5 +1,6 @@
 use Rattle.std.proofs.Common.{sym, ◌∙◌}
-use Rattle.attr_codec.proofs.AttributeLemmas.{attr_twice, attr_said, attr_blamed}
+use Rattle.update_grammar.proofs.ReadAttributesLemmas.{attr_whole}
+use Rattle.attr_codec.proofs.AttributeLemmas.{attr_twice, attr_blamed}
 use Rattle.attr_codec.proofs.reading.attribute.attr_of.Goals as goal
 
 pub returns-then-has-clause-exact : goal.returns-then-has-clause-exact
@@ -8,7 +9,7 @@ returns-then-has-clause-exact c = λ before has.
 
 pub returns-in-Ok-clause-exact : goal.returns-in-Ok-clause-exact
 returns-in-Ok-clause-exact c = λ before has.
-    attr_said _ _ before _ _ (sym c.has_flags.ensures ∙ c.if-not-has_flags.false) (sym (c.has.ensures before has) ∙ c.if-has.false) c.in-Ok.ensures
+    attr_whole _ (record { place = c.args.place; codes = before }) _ _ (sym c.has_flags.ensures ∙ c.if-not-has_flags.false) (sym (c.has.ensures before has) ∙ c.if-has.false) c.in-Ok.ensures
 
 pub returns-in-Err-clause-exact : goal.returns-in-Err-clause-exact
 returns-in-Err-clause-exact c = λ before has.
