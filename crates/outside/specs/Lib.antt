@@ -6,3 +6,4 @@ pub mod Supply
 pub mod Held
 pub mod Store
 pub mod Listed
+pub mod Seen

@@ -5,4 +5,5 @@ pub mod Visible
 pub mod Path
 pub mod Settings
 pub mod Sent
+pub mod Limits
 pub mod Pick

@@ -2,8 +2,8 @@
 ghost use Rattle.std.specs.Prelude.{◌≡◌, IfOk};
 
 use crate::attrs::{Attrs, WireAttrs};
-use crate::memory::NoMemory;
 use crate::path::{AsPath, Segment};
+use answers::NoMemory;
 use std::alloc::Global;
 
 impl AsPath {

@@ -1,7 +1,7 @@
 //! Lists of values.
 ghost use Rattle.std.specs.Prelude.{◌≡◌, ◌++◌, [], ◌∷◌, length, IfOk, OnOk, OnErr, not};
 
-use crate::memory::NoMemory;
+use answers::NoMemory;
 use std::alloc::Global;
 use std::marker::Model;
 

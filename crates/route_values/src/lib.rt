@@ -2,7 +2,7 @@
 //! command and as they are sent, and what a session's settings say of them.
 //!
 //! Path attributes are those of RFC 4271, RFC 1997, RFC 4360, RFC 4456 and RFC 8092; path identifiers are those of
-//! RFC 7911. Nothing here reads or writes a message or a text. The crate stands on no other.
+//! RFC 7911. Nothing here reads or writes a message or a text. The crate stands on `answers` alone.
 #![tactic(auto)]
 
 mod addr;
@@ -11,7 +11,6 @@ mod caps;
 mod copying;
 mod items;
 mod key;
-mod memory;
 mod path;
 mod pick;
 mod prefix;
@@ -19,11 +18,11 @@ mod sending;
 mod settings;
 
 pub use addr::{Addr, Family};
+pub use answers::NoMemory;
 pub use attrs::{Aggregator, Attrs, Exts, Hop, Large, Larges, Origin, WireAttrs};
 pub use caps::{Caps, visible};
 pub use items::Items;
 pub use key::{Key, Keys};
-pub use memory::NoMemory;
 pub use path::{AsPath, Segment, U32s};
 pub use pick::{Pick, Selector, is_picked};
 pub use prefix::Prefix;

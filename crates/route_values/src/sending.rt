@@ -5,9 +5,9 @@ ghost use Rattle.route_values.specs.Sent.{hop_sent, path_sent, local_pref_sent, 
 use crate::addr::Addr;
 use crate::attrs::{Attrs, Hop, Origin, WireAttrs};
 use crate::items::Items;
-use crate::memory::NoMemory;
 use crate::path::{AsPath, Segment};
 use crate::settings::Side;
+use answers::NoMemory;
 use std::alloc::Global;
 
 /// The LOCAL_PREF that a neighbour of the own AS is sent where none was written.

@@ -1,7 +1,8 @@
-//! The one answer that no clause ties to a cause.
+//! Want of memory.
 use std::alloc::{AllocError, AllocFailed};
 
-/// Memory ran out. A call that answers it leaves everything as it was, unless its own page says otherwise.
+/// Memory ran out. It is the one answer that no clause ties to a cause. A call that answers it leaves everything as it
+/// was, unless its own page says otherwise.
 #[derive(Clone, Copy, Debug, PartialEq, Eq)]
 pub struct NoMemory;
 
