@@ -1,5 +1,6 @@
 -- What stands at the front of a stream of messages (RFC 4271, section 4.1).
-use Rattle.std.specs.Prelude.{ℕ, ◌+◌, nat_lt, Bool, false, if◌then◌else◌, List, length, slice_range, Option, Some, None, ⊤}
+use Rattle.std.specs.Prelude.{ℕ, ◌+◌, nat_lt, Bool, false, if◌then◌else◌, List, length, slice_range, Option, Some, None}
+use Rattle.std.specs.Prelude.{⊤}
 use Rattle.frame_cutter.specs.declared.kinds.Lengths.{Lengths}
 use Rattle.frame_cutter.specs.declared.refusal.Refusal.{Refusal}
 use Rattle.frame_cutter.specs.Header.{Header, header_of, length_of, is_within, lengths_of, header_fault}

@@ -1,5 +1,5 @@
 -- The text of a message (RFC 4271, section 4.1), and that cutting gives just what was written.
-use Rattle.std.specs.Prelude.{ℕ, ◌≡◌, ◌^◌, ◌<◌, ◌≤◌, IsTrue, List, [], ◌∷◌, ◌++◌, drop, get_or, replicate}
+use Rattle.std.specs.Prelude.{ℕ, ◌≡◌, ◌^◌, ◌<◌, ◌≤◌, IsTrue, List, ◌∷◌, ◌++◌, drop, get_or, replicate}
 use Rattle.std.specs.Int.{w16, to_be_bytes}
 use Rattle.frame_cutter.specs.Front.{Frame, frame_len, is_sized, Whole, front}
 

@@ -25,8 +25,8 @@ enum Wide {
 /// It holds up to 65,535 bytes. A fault is for good: behind it no byte is taken, and it stays in front. One that stands
 /// behind whole messages shows once these were passed.
 ///
-/// Each call but `feed` takes constant time, and `feed` takes time by the bytes that it takes, and for each of them at
-/// most the time to move one, as a share of all moves.
+/// `new` alone takes memory. `feed` takes time by the bytes that it takes, and over all calls it moves at most as many
+/// bytes as it took; `peek`, `advance`, `widen` and `reset` take constant time.
 #[derive(Drop)]
 pub struct FrameCutter {
     pending: Pending,
@@ -76,7 +76,8 @@ impl FrameCutter {
 
         // When it takes nothing, and that a fault is for good.
         ensures nothing { (result ≡ 0) ↔ ((piece.now ≡ []) ⊎ (room_of self.old ≡ 0)) }
-        ensures stuck { (room_of self.old ≡ 0) ↔ ((length self.old.bytes ≡ 65535) ⊎ IsFault (front_of self.old)) }
+        ensures stuck { (room_of self.old ≡ 0) ↔ ((length self.old.bytes ≡ 65535)
+            ⊎ IsFault (front_of self.old)) }
         ensures for_good { IsFault (front_of self.old) → self.new ≡ self.old }
     {
         if let Next::Fault(_) = self.peek() {
@@ -92,7 +93,8 @@ impl FrameCutter {
         ensures exact { told result ≡ front_of self.now }
 
         // What holds of each message, and of a cutter that needs more bytes.
-        ensures sized { IfWhole (told result) (λ frame. IsTrue (is_sized (greatest self.now.wide) frame)) }
+        ensures sized { IfWhole (told result) (λ frame.
+            IsTrue (is_sized (greatest self.now.wide) frame)) }
         ensures room { OnNotYet (told result) (0 < room_of self.now) }
         ensures small { length self.now.bytes ≤ 65535 }
     {

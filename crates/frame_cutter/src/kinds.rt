@@ -37,6 +37,7 @@ const ROUTE_REFRESH_LEN: usize = 23;
 /// The least and the greatest length of some messages.
 #[derive(Clone, Copy, Debug)]
 pub struct Lengths {
+    /// With the header, as all lengths of messages.
     pub least: usize,
     pub greatest: usize,
 }

@@ -1,10 +1,11 @@
 //! The laws of cutting.
-ghost use Rattle.frame_cutter.specs.Chunking.{Begins, Takes, Passes, Widens, CutsAll, FramesStay, FaultsStay};
+ghost use Rattle.frame_cutter.specs.Chunking.{Begins, Takes, Passes, Widens, CutsAll, FramesStay};
+ghost use Rattle.frame_cutter.specs.Chunking.{FaultsStay};
 ghost use Rattle.frame_cutter.specs.Texts.{FramesAreText, TextsAreFrames};
 
 /// The messages of a stream don't depend on the pieces in which it came: those that a cutter has passed, and then those
-/// of the bytes that it still holds, are the messages of all bytes that it took. The function does nothing: its contract
-/// is the law.
+/// of the bytes that it still holds, are the messages of all bytes that it took. The function does nothing: its
+/// contract is the law.
 ///
 /// - `begins`, `takes`, `passes`, `widens`: what a cutter has taken and passed, at the beginning and behind each call.
 /// - `cuts_all`: what it has passed, and then the messages of what it holds, are the messages of what it took.

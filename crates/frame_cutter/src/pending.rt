@@ -1,5 +1,6 @@
 //! Bytes that came and wait.
-ghost use Rattle.std.specs.Prelude.{ℕ, ◌≡◌, ◌+◌, ◌-◌, ◌≤◌, [], ◌++◌, length, drop, slice_range, IfOk};
+ghost use Rattle.std.specs.Prelude.{ℕ, ◌≡◌, ◌+◌, ◌-◌, ◌≤◌, [], ◌++◌, length, drop, slice_range};
+ghost use Rattle.std.specs.Prelude.{IfOk};
 
 use std::alloc::{AllocError, Global};
 use std::marker::Model;
@@ -7,8 +8,8 @@ use std::marker::Model;
 /// How many bytes wait at most: as many as the longest message has (RFC 8654, section 4).
 pub const ROOM: usize = 65_535;
 
-/// How many cells they have: where they reach the last one and more come, more than half of the cells are free in front
-/// of them. So a byte that comes moves at most one that waits, as a share of all moves.
+/// How many cells they have: twice as many. Bytes that wait are moved to the front only where more bytes find no cell
+/// behind them. Then over half of the cells are free in front, so that no more bytes are moved than came before.
 const CELLS: usize = 131_070;
 
 /// Bytes in order, at most 65,535, which come at the end and go at the front.
@@ -93,7 +94,8 @@ fn make_room(cells: &mut [u8], start: usize, end: usize, more: usize) -> usize
     requires within { end ≤ length cells.old }
     requires room { end + more ≤ start + length cells.old }
     ensures fits { result + (end - start) + more ≤ length cells.new }
-    ensures same { slice_range cells.new result (result + (end - start)) ≡ slice_range cells.old start end }
+    ensures same { slice_range cells.new result (result + (end - start))
+        ≡ slice_range cells.old start end }
 {
     if more <= cells.len() - end {
         return start;
@@ -106,7 +108,8 @@ fn make_room(cells: &mut [u8], start: usize, end: usize, more: usize) -> usize
 fn put_behind(cells: &mut [u8], end: usize, piece: &[u8])
     requires { end + length piece.now ≤ length cells.old }
     ensures { (start : ℕ) → start ≤ end →
-        slice_range cells.new start (end + length piece.now) ≡ slice_range cells.old start end ++ piece.now }
+        slice_range cells.new start (end + length piece.now) ≡ slice_range cells.old start end
+        ++ piece.now }
 {
     cells[end..end + piece.len()].copy_from_slice(piece);
 }

@@ -45,7 +45,11 @@ fn a_long_message_is_taken_behind_the_one_at_which_the_cutter_was_widened(
     cutter.reset();
     cutter.feed(WHOLE_KEEPALIVE);
     cutter.feed(LONG_UPDATE);
-    if let Next::Frame { kind: KEEPALIVE, .. } = cutter.peek() {
+    if let Next::Frame {
+        kind: KEEPALIVE,
+        ..
+    } = cutter.peek()
+    {
         cutter.widen();
     }
     cutter.advance();

@@ -5,4 +5,8 @@ use Rattle.frame_cutter.proofs.cutter.FrameCutter.advance.Goals as goal
 
 pub skip-requires : goal.skip-requires
 skip-requires c =
-    omega (arith, whole_fits _ _ _ (sym (c.in-Frame.ensures.exact)), ap (λ (cutting : Cutting). length cutting.bytes) c.self.view_is)
+    omega (
+      arith,
+      whole_fits _ _ _ (sym (c.in-Frame.ensures.exact)),
+      ap (λ (cutting : Cutting). length cutting.bytes) c.self.view_is,
+    )

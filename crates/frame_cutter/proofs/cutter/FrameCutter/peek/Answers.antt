@@ -1,6 +1,5 @@
-use Rattle.std.proofs.Common.{◌≡◌, ap, ◌∙◌, sym}
-use Rattle.frame_cutter.specs.Front.{Front, front}
-use Rattle.frame_cutter.specs.Cutting.{Cutting, front_of}
+use Rattle.std.proofs.Common.{◌≡◌, ◌∙◌}
+use Rattle.frame_cutter.specs.Cutting.{front_of}
 use Rattle.frame_cutter.specs.Told.{told}
 use Rattle.frame_cutter.proofs.CutterLemmas.{told_sized, told_room}
 use Rattle.frame_cutter.proofs.cutter.FrameCutter.peek.Goals as goal
