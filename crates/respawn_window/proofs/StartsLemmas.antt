@@ -114,8 +114,8 @@ five_kept starts kept is full = record {
 }
 
 -- the starts before the fifth last, and from there on
-window_parts : (starts : List ℕ) (p : ℕ → Bool) → count_by p (take (length starts - 5) starts) + count_by p
-    (drop (length starts - 5) starts) ≡ count_by p starts
+window_parts : (starts : List ℕ) (p : ℕ → Bool)
+    → count_by p (take (length starts - 5) starts) + count_by p (drop (length starts - 5) starts) ≡ count_by p starts
 window_parts starts p = sum_by-take-drop (λ start. cond (p start) 1 0) starts (length starts - 5)
 
 -- a start isn't allowed where the first of five lies within the span
