@@ -1,0 +1,9 @@
+pub mod Refusals
+pub mod Header
+pub mod Front
+pub mod Frames
+pub mod Cutting
+pub mod Wide
+pub mod Told
+pub mod Chunking
+pub mod Texts
