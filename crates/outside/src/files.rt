@@ -9,7 +9,7 @@ use crate::source::Source;
 pub enum Opened<S> {
     /// A source of the file's bytes, from the front. It goes back by `Files::give_back`.
     Open(S),
-    /// The file wasn't opened. The count of faults rose.
+    /// The file wasn't opened. One fault was counted.
     Failed,
 }
 
@@ -30,15 +30,15 @@ pub trait Files {
     /// Opens the file at a path.
     ///
     /// The source has given nothing, hasn't ended and has no faults. Where the content is told, it
-    /// has the whole content of the path left to give. `Failed` comes only where the count of
-    /// faults rose in this call.
+    /// has the whole content of the path left to give. `Failed` counts one fault, and `Open` none.
     fn open(&mut self, path: &str) -> Opened<Self::Source>
         ensures content { content self.new ≡ content self.old }
         ensures cause { OpenCounts (faults self.old) (faults self.new) result }
         ensures fresh { IsFresh Self.Source.given Self.Source.ended Self.Source.faults result }
         ensures holds { HasContent (content self.old) path.now Self.Source.left result };
 
-    /// Takes a source back. The count of faults rises exactly where the source has faults.
+    /// Takes a source back. One fault is counted where the source has faults, however many, and
+    /// else none.
     fn give_back(&mut self, source: Self::Source)
         ensures content { content self.new ≡ content self.old }
         ensures cause { CountsSource (faults self.old) (faults self.new)

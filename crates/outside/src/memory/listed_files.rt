@@ -47,7 +47,7 @@ impl<'a> MemoryFiles<'a> {
 
 impl<'a> Files for MemoryFiles<'a> {
     ghost use Rattle.outside.specs.Opening.{OpenCounts, IsFresh, HasContent, CountsSource, IsOpen};
-    ghost use Rattle.outside.specs.Plan.{strikes_now, after_call, counted};
+    ghost use Rattle.outside.specs.Plan.{strikes_now, after_call, after_return};
     ghost use Rattle.outside.specs.Listed.{files_plan, failing_reads_of, FailsAt, source_plan};
 
     type Source = MemorySource<'a>;
@@ -84,6 +84,9 @@ impl<'a> Files for MemoryFiles<'a> {
         ensures cause { CountsSource (⟦<Self as Files>⟧.faults self.old)
             (⟦<Self as Files>⟧.faults self.new)
             (⟦<MemorySource<'static> as Source>⟧.faults source.entry) }
+        ensures plan { files_plan self.new
+            ≡ after_return (⟦<MemorySource<'static> as Source>⟧.faults source.entry)
+            (files_plan self.old) }
         ensures same { failing_reads_of self.new ≡ failing_reads_of self.old }
     {
         if source.faults() > 0 {
