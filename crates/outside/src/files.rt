@@ -16,6 +16,7 @@ pub enum Opened<S> {
 /// What opens files.
 pub trait Files {
     ghost use Rattle.outside.specs.Opening.{OpenCounts, IsFresh, HasContent, CountsSource};
+    ghost use Rattle.outside.specs.Lent.{OpenLends, TakesBack};
 
     /// An opened file.
     type Source: Source + Drop + Send;
@@ -27,6 +28,9 @@ pub trait Files {
     /// 2^64 - 1 stays there.
     ghost faults: { Self → ℕ };
 
+    /// How many of the sources that it opened are out and not yet given back, where it tells it.
+    ghost lent: { Self → Option ℕ };
+
     /// Opens the file at a path.
     ///
     /// The source has given nothing, hasn't ended and has no faults. Where the content is told, it
@@ -34,6 +38,7 @@ pub trait Files {
     fn open(&mut self, path: &str) -> Opened<Self::Source>
         ensures content { content self.new ≡ content self.old }
         ensures cause { OpenCounts (faults self.old) (faults self.new) result }
+        ensures lends { OpenLends (lent self.old) (lent self.new) result }
         ensures fresh { IsFresh Self.Source.given Self.Source.ended Self.Source.faults result }
         ensures holds { HasContent (content self.old) path.now Self.Source.left result };
 
@@ -42,5 +47,6 @@ pub trait Files {
     fn give_back(&mut self, source: Self::Source)
         ensures content { content self.new ≡ content self.old }
         ensures cause { CountsSource (faults self.old) (faults self.new)
-            (Self.Source.faults source) };
+            (Self.Source.faults source) }
+        ensures back { TakesBack (lent self.old) (lent self.new) };
 }

@@ -3,6 +3,7 @@ ghost use Rattle.std.specs.Prelude.{◌<◌, ◌≤◌, ◌≡◌, ◌^◌, List
 ghost use Rattle.std.specs.Prelude.{IfOk, OnOk, OnErr, IsErrOf};
 ghost use Rattle.outside.specs.Told.{Grows, Shrinks, AreLeft, AreLeftFrom, counted};
 ghost use Rattle.outside.specs.Opening.{IsContent, IsLonger, IsWithin};
+ghost use Rattle.outside.specs.Lent.{LendsNone};
 ghost use Rattle.outside.specs.declared.reading.Unread.TheVariants.{Memory};
 
 use crate::files::{Files, Opened};
@@ -93,6 +94,7 @@ pub fn read_file<F: Files>(
     ensures within { OnOk result (IsWithin (F.content files.old) path.now limit) }
     ensures long { IsErrOf result Unread.Long → IsLonger (F.content files.old) path.now limit }
     ensures content { F.content files.new ≡ F.content files.old }
+    ensures back { LendsNone (F.lent files.old) (F.lent files.new) }
 
     // One fault is counted where the file or its source failed, and none else.
     ensures fault { IsErrOf result Unread.Fault

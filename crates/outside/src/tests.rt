@@ -193,6 +193,11 @@ fn a_file_is_opened_by_its_path(rt: HostRuntime) -> Result<(), Fail> {
         );
     }
     assert_eq!(rt; listed.faults(), 0);
+    for out in [1, 2] {
+        assert!(rt; matches!(sure.open("a.conf"), Opened::Open(_)));
+        assert!(rt; matches!(listed.open("a.conf"), Opened::Open(_)));
+        assert_eq!(rt; (sure.lent(), listed.lent()), (Some(out), Some(out)));
+    }
     Ok(())
 }
 
@@ -229,6 +234,7 @@ fn a_file_is_read_whole_where_it_has_at_most_the_limit(rt: HostRuntime) -> Resul
             .map_err(|error| *error);
         assert_eq!(rt; answer, wanted, "{path}, {limit}");
         assert_eq!(rt; files.faults(), 0, "{path}, {limit}");
+        assert_eq!(rt; files.lent(), Some(0), "{path}, {limit}");
     }
     Ok(())
 }
@@ -247,6 +253,7 @@ fn a_file_that_fails_counts_once_and_the_next_reading_goes_on(rt: HostRuntime) -
         let answer = read_file(alloc, &mut files, "b.conf", 100).err();
         assert_eq!(rt; answer, Some(Unread::Fault), "{what}");
         assert_eq!(rt; files.faults(), 1, "{what}");
+        assert_eq!(rt; files.lent(), Some(0), "{what}");
     }
     let mut files = MemoryFiles::new(&HELD, &[0, 2], &[]);
     assert!(rt; read_file(alloc, &mut files, "b.conf", 3).is_err());
