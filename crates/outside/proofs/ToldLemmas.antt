@@ -1,8 +1,8 @@
--- Told bytes grow and shrink piece by piece.
-use Rattle.std.proofs.Common.{ℕ, List, ◌++◌, ◌∙◌, sym, ap, append_assoc}
+-- Told bytes grow and shrink piece by piece, and a count that was counted up has risen.
+use Rattle.std.proofs.Common.{ℕ, ◌≡◌, List, ◌++◌, ◌∙◌, sym, ap, append_assoc, arith}
 use Rattle.std.specs.declared.option.Option.{Option}
 use Rattle.std.specs.declared.option.Option.TheVariants.{Some, None}
-use Rattle.outside.specs.Told.{Grows, Shrinks}
+use Rattle.outside.specs.Told.{Grows, Shrinks, Rose, counted}
 
 -- by two pieces, one behind the other
 pub grows_more :
@@ -25,3 +25,7 @@ shrinks_more (Some was) None new first second before after = absurd before
 shrinks_more (Some was) (Some then) None first second before after = absurd after
 shrinks_more (Some was) (Some then) (Some now) first second before after =
     before ∙ ap (λ bytes. first ++ bytes) after ∙ sym (append_assoc first second now)
+
+-- a count of one more has risen
+pub counted_rose : (before now : ℕ) → now ≡ counted before → Rose before now
+counted_rose before now is = omega arith

@@ -11,7 +11,7 @@ use crate::source::{Read, Source};
 use std::alloc::{AllocError, Global};
 use thiserror::Error;
 
-/// How many bytes one call of a source is asked for at most: what a pipe holds on Linux.
+// How many bytes one call of a source is asked for at most: what a pipe holds on Linux.
 const BUFFER: usize = 65_536;
 
 /// Why a source wasn't read to its end.

@@ -2,7 +2,7 @@ use super::*;
 use std::alloc::Global;
 use std::test::Fail;
 
-/// What the calls of a source give until it ends, with `|` behind each piece, `!` for each fault.
+// What the calls of a source give until it ends, with `|` behind each piece, `!` for each fault.
 fn pieces<S: Source>(alloc: Global, source: &mut S, room: usize) -> Result<String, Fail> {
     let mut text = String::new(alloc);
     let mut buffer = [0; 16];
@@ -92,7 +92,7 @@ fn a_reading_that_failed_goes_on_where_it_stood(rt: HostRuntime) -> Result<(), F
     Ok(())
 }
 
-/// What a sink that takes at most `step` bytes a call holds after three pieces.
+// What a sink that takes at most `step` bytes a call holds after three pieces.
 fn written(alloc: Global, step: usize) -> Result<Vec<u8>, Fail> {
     let mut sink = SureSink::in_steps(alloc, 100, step.max(1))?;
     write_all(&mut sink, b"abcdef")?;
@@ -155,7 +155,7 @@ const HELD: [HeldFile<'static>; 4] = [
     },
 ];
 
-/// The content that a path opens, `no` where it isn't opened.
+// The content that a path opens, `no` where it isn't opened.
 fn opened<F: Files>(alloc: Global, files: &mut F, path: &str) -> Result<String, Fail> {
     match files.open(path) {
         Opened::Failed => Ok(String::from_str(alloc, "no")?),

@@ -4,8 +4,8 @@ use std::io::ErrorKind;
 use std::test::Fail;
 use std::{env, fs, io, process};
 
-/// A reader and writer whose calls answer in this order: so many bytes, each an `x`, or an error.
-/// Behind its last answer it is at its end.
+// A reader and writer whose calls answer in this order: so many bytes, each an `x`, or an error.
+// Behind its last answer it is at its end.
 #[derive(Drop)]
 struct Scripted<'a> {
     answers: &'a [Result<usize, ErrorKind>],
@@ -113,7 +113,7 @@ fn a_call_that_is_interrupted_ten_times_is_made_until_it_answers(
     Ok(())
 }
 
-/// The path of a file of this process alone.
+// The path of a file of this process alone.
 fn own_path(rt: &HostRuntime, ending: &str) -> Result<String, Fail> {
     let alloc = rt.alloc();
     let mut path = env::temp_dir(rt)?;

@@ -82,6 +82,8 @@ impl<'a> Files for MemoryFiles<'a> {
             ⟦<MemorySource<'static> as Source>⟧.left result }
         ensures lends { OpenLends (⟦<Self as Files>⟧.lent self.old)
             (⟦<Self as Files>⟧.lent self.new) result }
+
+        // Which calls and reads fail, and how many sources are out then.
         ensures failed { strikes_now (files_plan self.old) ≡ true → result ≡ Opened.Failed }
         ensures opens { strikes_now (files_plan self.old) ≡ false → IsOpen result }
         ensures reads { FailsAt (failing_reads_of self.old) result }
@@ -105,11 +107,13 @@ impl<'a> Files for MemoryFiles<'a> {
         ensures cause { CountsSource (⟦<Self as Files>⟧.faults self.old)
             (⟦<Self as Files>⟧.faults self.new)
             (⟦<MemorySource<'static> as Source>⟧.faults source.entry) }
+        ensures back { TakesBack (⟦<Self as Files>⟧.lent self.old)
+            (⟦<Self as Files>⟧.lent self.new) }
+
+        // What was planned stays, and one source fewer is out.
         ensures plan { files_plan self.new
             ≡ after_return (⟦<MemorySource<'static> as Source>⟧.faults source.entry)
             (files_plan self.old) }
-        ensures back { TakesBack (⟦<Self as Files>⟧.lent self.old)
-            (⟦<Self as Files>⟧.lent self.new) }
         ensures one_back { ⟦<Self as Files>⟧.lent self.new
             ≡ one_less (⟦<Self as Files>⟧.lent self.old) }
         ensures same { failing_reads_of self.new ≡ failing_reads_of self.old }

@@ -38,6 +38,7 @@ impl<'a> SureFiles<'a> {
 impl<'a> Files for SureFiles<'a> {
     ghost use Rattle.outside.specs.Opening.{OpenCounts, IsFresh, HasContent, CountsSource, IsOpen};
     ghost use Rattle.outside.specs.Lent.{OpenLends, TakesBack, one_more, one_less};
+    ghost use Rattle.outside.specs.Supply.{GivesAll};
 
     type Source = SureSource<'a>;
 
@@ -61,6 +62,7 @@ impl<'a> Files for SureFiles<'a> {
         ensures out { ⟦<Self as Files>⟧.lent self.new
             ≡ one_more (⟦<Self as Files>⟧.lent self.old) }
         ensures opens { IsOpen result }
+        ensures all { GivesAll result }
     {
         self.lent.lend();
         Opened::Open(SureSource::new(content_of(self.held, path)))
