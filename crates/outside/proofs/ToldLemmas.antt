@@ -1,8 +1,8 @@
--- Told bytes grow and shrink piece by piece.
-use Rattle.std.proofs.Common.{ℕ, Result, Ok, Err, OnErr, List, ◌++◌, ◌∙◌, sym, ap, append_assoc}
+-- Told bytes grow and shrink piece by piece, and a count that was counted up has risen.
+use Rattle.std.proofs.Common.{ℕ, ◌≡◌, List, ◌++◌, ◌∙◌, sym, ap, append_assoc, arith}
 use Rattle.std.specs.declared.option.Option.{Option}
 use Rattle.std.specs.declared.option.Option.TheVariants.{Some, None}
-use Rattle.outside.specs.Told.{Grows, Shrinks}
+use Rattle.outside.specs.Told.{Grows, Shrinks, Rose, counted}
 
 -- by two pieces, one behind the other
 pub grows_more :
@@ -26,7 +26,6 @@ shrinks_more (Some was) (Some then) None first second before after = absurd afte
 shrinks_more (Some was) (Some then) (Some now) first second before after =
     before ∙ ap (λ bytes. first ++ bytes) after ∙ sym (append_assoc first second now)
 
--- a fact that holds anyway holds after an error
-pub on_err : {T E : Type 0} (answer : Result T E) (P : Type 0) → P → OnErr answer P
-on_err (Ok value) P holds = tt
-on_err (Err error) P holds = holds
+-- a count of one more has risen
+pub counted_rose : (before now : ℕ) → now ≡ counted before → Rose before now
+counted_rose before now is = omega arith

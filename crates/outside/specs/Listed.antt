@@ -1,9 +1,10 @@
 -- What the objects in memory that fail at some of their calls are made of.
-use Rattle.std.specs.Prelude.{ℕ, ◌≡◌, List, ⊤}
+use Rattle.std.specs.Prelude.{ℕ, ◌≡◌, ◌-◌, ◌^◌, List, ⊤}
 use Rattle.outside.specs.declared.files.Opened.{Opened}
 use Rattle.outside.specs.declared.files.Opened.TheVariants.{Open, Failed}
 use Rattle.outside.specs.declared.memory.listed_files.MemoryFiles.{MemoryFiles}
 use Rattle.outside.specs.Plan.{Plan}
+use Rattle.outside.specs.Supply.{step_of}
 use Rattle.outside.specs.declared.memory.sure_source.SureSource.{SureSource}
 use Rattle.outside.specs.declared.memory.listed_source.MemorySource.{MemorySource}
 use Rattle.outside.specs.declared.memory.sure_sink.SureSink.{SureSink}
@@ -33,7 +34,9 @@ files_plan f = f.plan
 abbrev pub failing_reads_of : MemoryFiles → List ℕ
 failing_reads_of f = f.failing_reads.now
 
--- of a file that was opened, these reads fail
+-- of a file that was opened, these reads fail, and each other one gives all that the buffer holds
 abbrev pub FailsAt : List ℕ → Opened MemorySource → Type 0
-FailsAt reads (Open source) = source_plan source ≡ record { failing = reads; calls = 0; faults = 0 }
+FailsAt reads (Open source) =
+    (source_plan source ≡ record { failing = reads; calls = 0; faults = 0 })
+    × (step_of (supply_of source) ≡ 2 ^ 64 - 1)
 FailsAt reads Failed = ⊤

@@ -1,5 +1,7 @@
 -- What a source in memory gives.
-use Rattle.std.specs.Prelude.{ℕ, List, length, drop, min, ◌==◌, if◌then◌else◌}
+use Rattle.std.specs.Prelude.{ℕ, ◌≡◌, ◌-◌, ◌^◌, List, length, drop, min, ◌==◌, if◌then◌else◌, ⊤}
+use Rattle.outside.specs.declared.files.Opened.{Opened}
+use Rattle.outside.specs.declared.files.Opened.TheVariants as opened
 use Rattle.outside.specs.declared.memory.sure_source.SureSource.{SureSource}
 use Rattle.outside.specs.declared.source.Read.{Read}
 use Rattle.outside.specs.declared.source.Read.TheVariants.{Got, End}
@@ -17,3 +19,8 @@ abbrev pub answer_of : ℕ → ℕ → List ℕ → Read
 answer_of room step rest =
     let count = min (min room step) (length rest) in
     if count == 0 then End else Got count
+
+-- a file that was opened gives all that the buffer holds
+abbrev pub GivesAll : Opened SureSource → Type 0
+GivesAll (opened.Open source) = step_of source ≡ 2 ^ 64 - 1
+GivesAll opened.Failed = ⊤

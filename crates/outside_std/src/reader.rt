@@ -84,7 +84,7 @@ impl<R: io::Read> Source for ReaderSource<R> {
     }
 }
 
-/// One read, made again where a signal interrupts it.
+// One read, made again where a signal interrupts it.
 fn read_unbroken<R: io::Read>(reader: &mut R, into: &mut [u8]) -> io::Result<usize>
     ensures bound { ReadsAtMost result into.new }
     ensures bytes { ReadConsumes (R.remaining reader.old) (R.remaining reader.new) result into.new }

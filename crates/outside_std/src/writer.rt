@@ -68,7 +68,7 @@ impl<W: io::Write> Sink for WriterSink<W> {
     }
 }
 
-/// One write, made again where a signal interrupts it.
+// One write, made again where a signal interrupts it.
 fn write_unbroken<W: io::Write>(writer: &mut W, piece: &[u8]) -> io::Result<usize>
     ensures bound { WritesAtMost result piece.now }
     ensures bytes { WriteAppends (W.contents writer.old) (W.contents writer.new) result piece.now }

@@ -55,7 +55,7 @@ impl SureSink {
         if self.lost { None } else { Some(&self.bytes) }
     }
 
-    /// Keeps a part, or loses all where the room is too small.
+    // Keeps a part, or loses all where the room is too small.
     fn keep(&mut self, part: &[u8])
         ensures told { Keeps (room_of self.old) (⟦<Self as Sink>⟧.taken self.old)
             (⟦<Self as Sink>⟧.taken self.new) part.now }
