@@ -4,7 +4,7 @@ ghost use Rattle.std.specs.Prelude.{◌≡◌, ℕ, ◌<◌, ◌≤◌, ◌∷�
 ghost use Rattle.linked_pending.specs.Listing.{AreApart, has, put_before, without, behind_or, before_from};
 ghost use Rattle.linked_pending.specs.Links.{AreInverse, crossed, link};
 
-use crate::fault::NoMemory;
+use answers::NoMemory;
 use std::alloc::Global;
 use std::marker::Model;
 
@@ -135,7 +135,7 @@ pub fn grow(links: &mut Vec<usize>, len: usize, room: usize)
     }
 }
 
-/// Exchanges what stands behind two places, so that two rings of links become one, or one becomes two.
+// Exchanges what stands behind two places, so that two rings of links become one, or one becomes two.
 fn cross(nexts: &mut Vec<usize>, prevs: &mut Vec<usize>, place: usize, other: usize)
     requires links { AreInverse nexts.old.items prevs.old.items }
     requires place { place < length nexts.old.items }

@@ -7,13 +7,13 @@ ghost use Rattle.linked_pending.specs.Layout.{has_node, opened, parse};
 ghost use Rattle.linked_pending.specs.Pending.{IsQueue, IsOrderly};
 
 use crate::chain::{Chain, grow};
-use crate::fault::NoMemory;
+use answers::NoMemory;
 use std::alloc::Global;
 use std::marker::Model;
 use std::mem;
 
-/// The greatest room: a node and a group have a place each, and with the chain's own there are as many places as a usize
-/// can count.
+// The greatest room: a node and a group have a place each, and with the chain's own there are as many places as a usize
+// can count.
 const MOST: usize = usize::MAX / 2;
 
 /// Where a node stands: in which group, and which node it is.
@@ -64,14 +64,21 @@ impl Pending {
         }
     }
 
+    /// How many nodes and how many groups there is room for. Its clauses tell besides all that holds of each such pair of
+    /// lists.
+    pub fn room(&self) -> usize
+        ensures room { result ≡ self.now.room }
+        ensures countable { self.now.room < 2 ^ 63 }
+        ensures orderly { IsOrderly self.now }
+    {
+        self.groups.len()
+    }
+
     /// The first node of the first frozen group, or None where nothing is frozen.
     pub fn front(&self) -> Option<Place>
         ensures first { result ≡ front_of self.now.frozen }
         ensures none { IsNone result ↔ (self.now.frozen ≡ []) }
         ensures member { IfSome result (λ place. group_of place.node self.now.frozen ≡ Some place.group) }
-
-        // What holds of each pair of lists.
-        ensures orderly { IsOrderly self.now }
     {
         if self.frozen.room() == 0 {
             return None;
@@ -158,7 +165,7 @@ impl Pending {
     }
 }
 
-/// Puts a node that isn't in the chain at the end of the group that the table gives it.
+// Puts a node that isn't in the chain at the end of the group that the table gives it.
 fn put(chain: &mut Chain, groups: &[usize], node: usize)
     requires queue { IsQueue groups.now chain.old }
     requires fits { 2 * length groups.now < 2 ^ 64 }
@@ -173,7 +180,7 @@ fn put(chain: &mut Chain, groups: &[usize], node: usize)
     chain.insert_before(end, 2 * node + 1);
 }
 
-/// Puts a group's end at the chain's end, where it isn't in the chain.
+// Puts a group's end at the chain's end, where it isn't in the chain.
 fn open_group(chain: &mut Chain, end: usize)
     requires item { 0 < end }
     requires room { end < chain.old.room }
@@ -184,7 +191,7 @@ fn open_group(chain: &mut Chain, end: usize)
     }
 }
 
-/// Takes a node out of the chain, where it is in it, and its group's end where it was the last.
+// Takes a node out of the chain, where it is in it, and its group's end where it was the last.
 fn take_out(chain: &mut Chain, groups: &[usize], node: usize)
     requires queue { IsQueue groups.now chain.old }
     requires fits { 2 * length groups.now < 2 ^ 64 }
