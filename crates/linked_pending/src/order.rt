@@ -1,6 +1,7 @@
 //! A list of nodes, each at most once.
 
-ghost use Rattle.std.specs.Prelude.{◌≡◌, ◌↔◌, ℕ, ◌<◌, ◌≤◌, ◌^◌, ◌∷◌, ◌++◌, [], nat_eq, All, Contains, IsNone, IsErr, IsOk, OnErr, OnOk, max, slice_get};
+ghost use Rattle.std.specs.Prelude.{◌≡◌, ◌↔◌, ℕ, ◌<◌, ◌≤◌, ◌^◌, ◌∷◌, ◌++◌, [], nat_eq, All};
+ghost use Rattle.std.specs.Prelude.{Contains, IsNone, IsErr, IsOk, OnErr, OnOk, max, slice_get};
 ghost use Rattle.std.specs.List.{IsDistinct};
 ghost use Rattle.linked_pending.specs.Listing.{without, next_in};
 ghost use Rattle.linked_pending.specs.Order.{node_at};
@@ -28,7 +29,10 @@ impl Model for Order {
 
     ghost Value = { Listing };
 
-    ghost view = { λ order. record { room = order.chain.room - 1; items = nodes_at order.chain.items } };
+    ghost view = { λ order. record {
+      room = order.chain.room - 1;
+      items = nodes_at order.chain.items;
+    } };
 
     ghost invariant = { λ order. IsOrder order.chain };
 }

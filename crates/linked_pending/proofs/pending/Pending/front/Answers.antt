@@ -32,7 +32,8 @@ returns-clause-first c =
     let read : c.after-first.result ≡ first_or 0 c.self.inside.frozen.items = grind (arith, common_steps) in
     let linked : c.after-first.result ≢ 0 = grind (arith, common_steps) in
     let inside = (front_shown _ _ c.after-first.result c.self.invariant.second read linked).1 in
-    let number_is : c.index.result.now ≡ link c.self.inside.groups.items (c.after-first.result / 2) = grind (arith, common_steps) in
+    let number_is : c.index.result.now ≡ link c.self.inside.groups.items (c.after-first.result / 2) =
+    grind (arith, common_steps) in
     let place : ℕ → Option Place = λ number. Some (record { group = number; node = c.after-first.result / 2 }) in
     ap place number_is
     ∙ (front_shown _ _ c.after-first.result c.self.invariant.second read linked).0
@@ -40,4 +41,5 @@ returns-clause-first c =
 
 pub returns-clause-member : goal.returns-clause-member
 returns-clause-member c =
-    front_member c.args.self.now.frozen (record { group = c.index.result.now; node = c.after-first.result / 2 }) (returns-clause-first c)
+    front_member c.args.self.now.frozen (record { group = c.index.result.now; node = c.after-first.result / 2 })
+    (returns-clause-first c)
