@@ -1,5 +1,5 @@
 //! The gate: a ticket lock round the state.
-ghost use Rattle.std.specs.Prelude.{◌≡◌, ◌++◌, ◌∷◌, [], None, Some, IfOk, IfErr, OnErr, All, Contains};
+ghost use Rattle.std.specs.Prelude.{◌≡◌, ◌↔◌, ◌++◌, ◌∷◌, [], None, Some, IfOk, IfErr, IsErr, OnErr, All, Contains};
 ghost use Rattle.book_gate.specs.Views.{at_rest, with_entry};
 ghost use Rattle.book_gate.specs.Steps.{Counts, GetsTurn};
 ghost use Rattle.book_gate.specs.Known.{first_known};
@@ -8,10 +8,10 @@ ghost use Rattle.book_gate.specs.Turns.{IsSameSeat, IsWaiting, IsReady};
 
 use crate::glimpse::Glimpse;
 use crate::held::{Call, Held};
-use crate::no_memory::NoMemory;
 use crate::pass::Pass;
 use crate::steps::{Count, Family, Look, Lore, Review, Said, Serve, Take};
 use crate::view::{Board, Place};
+use answers::NoMemory;
 use atomic_table::{Refused, Table};
 use std::alloc::{AllocFailed, Global};
 use std::marker::{Brand, Model};
@@ -92,11 +92,13 @@ impl<T: Held> Gate<T> {
         }
     }
 
-    /// A new pass, which has the next name of this pass, has seen as much and has made no call. The only refusal is for want of
-    /// memory: passes are counted, and the count of those that may still come from this pass is 0. This pass is then unchanged.
+    /// A new pass, which has the next name of this pass, has seen as much and has made no call. Passes are counted: each
+    /// has room for those that may still come from it, and gives a part of its room to a new one. It is refused exactly
+    /// where this pass has no room left. This pass is then unchanged.
     pub fn split(&self, pass: &mut Pass<T>) -> Result<Pass<T>, NoMemory>
         requires { pass.old.gate ≡ self.now }
         ensures new { IfOk result (λ child. IsSplit T.law pass.old pass.new child) }
+        ensures refused { IsErr result ↔ (pass.old.room ≡ 0) }
         ensures same { OnErr result (pass.new ≡ pass.old) }
     {
         self.table.shared.load::<Review<T>>(&mut pass.seat, SERVING);

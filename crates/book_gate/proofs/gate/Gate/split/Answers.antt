@@ -28,13 +28,13 @@ split_seat-seat-requires g c =
       splits g.T.Held.stands g.T.Held.law _ _ c.load.new.seat.me.0 live.0 (ap (λ view. view.start) same ∙ live.1) (ap (λ view. view.turn) same ∙ c.pass.invariant.idle.rests) (omega arith),
     )
 
-pub returns : goal.returns
-returns g c =
+pub returns-clause-new : goal.returns-clause-new
+returns-clause-new g c =
     let seat = c.pass.inside.seat in
     let live = some_of seat.me.0.start c.pass.invariant.alive in
     let same = ap (λ me. me.0) c.load.ensures.2.0 in
-    let cut = c.split_seat-seat in record {
-      new = split_at g.T.Held.law c.args.pass.now seat.table_id cut.new.seat.table_id cut.result.table_id seat.me.0 cut.new.seat.me.0 cut.result.me.0 live.0 live.1 c.pass.view_is (cut.ensures.0 ∙ c.load.ensures.0) (cut.ensures.3 ∙ c.load.ensures.0)
-          (ap (λ me. me.0) cut.ensures.2 ∙ ap parent_view same) (ap (λ me. me.0) cut.ensures.4 ∙ ap child_view same) c.load.ensures.2.1;
-      same = tt;
-    }
+    let cut = c.split_seat-seat in
+    split_at g.T.Held.law c.args.pass.now seat.table_id cut.new.seat.table_id cut.result.table_id seat.me.0
+        cut.new.seat.me.0 cut.result.me.0 live.0 live.1 c.pass.view_is (cut.ensures.0 ∙ c.load.ensures.0)
+        (cut.ensures.3 ∙ c.load.ensures.0) (ap (λ me. me.0) cut.ensures.2 ∙ ap parent_view same)
+        (ap (λ me. me.0) cut.ensures.4 ∙ ap child_view same) c.load.ensures.2.1
