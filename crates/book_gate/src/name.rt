@@ -8,10 +8,10 @@ pub trait GateName {
     ghost use Rattle.std.specs.Prelude.{List, ℕ};
     ghost use Rattle.book_gate.specs.Known.{TableId};
 
-    // The gate, as contracts see a `Gate`.
+    /// The gate, as contracts see a `Gate`.
     ghost gate: { TableId };
 
-    // The name of the pass whose entries are told of.
+    /// The name of the pass whose entries are told of.
     ghost writer: { List ℕ };
 }
 
