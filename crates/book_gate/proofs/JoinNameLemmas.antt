@@ -1,21 +1,15 @@
 -- Names of passes through a join, and where all are joined.
-use Rattle.std.proofs.Common.{◌≡◌, ◌≢◌, ◌⊎◌, ℕ, zero, suc, ◌+◌, ◌<◌, ◌≤◌, Bool, true, false, true≢false, cond, List, []}
+use Rattle.std.proofs.Common.{◌≡◌, ◌≢◌, ◌⊎◌, ℕ, zero, suc, ◌<◌, ◌≤◌, true, true≢false, List, []}
 use Rattle.std.proofs.Common.{◌∷◌, ◌++◌, length, set, refl, sym, ap, subst, ◌∙◌, inl, inr, ⊎_elim, arith, length-append}
 use Rattle.std.proofs.Common.{le_refl}
 use Rattle.std.specs.Prelude.{Contains}
 use Rattle.std.proofs.lemmas.List.Elements.{Contains-append_left, Contains-append_right, Contains-append_cases}
 use mathlib.Core.Option.{some}
-use mathlib.Core.List.{IsPrefix}
-use mathlib.Core.Logic.{dite}
-use native.Mathlib.Decide.{ℕ_discrete}
 use lib.ListN.{get_elem?}
-use Rattle.book_gate.specs.Histories.{is_name}
-use Rattle.book_gate.specs.Names.{Lineage, child_name, IsGivenOut, IsTrueLine, AreApart, NamesAgree}
-use Rattle.book_gate.proofs.ListLemmas.{prefix_self, prefix_more, prefix_push, each_set, each_end, pairs_set, pairs_end}
-use Rattle.book_gate.proofs.ListLemmas.{contains_none, contains_one, contains_last}
-use Rattle.book_gate.proofs.HistoryLemmas.{is_name-self, is_name-true, is_name-apart}
-use Rattle.book_gate.proofs.NameLemmas.{gives_one, still_given, gives_here, gives_else, parent_line, child_line}
-use Rattle.book_gate.proofs.NameLemmas.{joined_line, no_line, AreFar, next_is_new}
+use Rattle.book_gate.specs.Names.{Lineage, child_name, IsGivenOut, IsTrueLine, NamesAgree}
+use Rattle.book_gate.proofs.ListLemmas.{prefix_self, prefix_more, each_set, pairs_set}
+use Rattle.book_gate.proofs.ListLemmas.{contains_one, contains_last}
+use Rattle.book_gate.proofs.NameLemmas.{joined_line, no_line, AreFar}
 
 -- What was joined into the two, and the other's name
 pub joined_cases : (line other : Lineage) (name : List ℕ) → Contains ((line.joined ++ other.joined) ++ other.name ∷ [])

@@ -1,19 +1,10 @@
 -- Names of passes: what is given out, and views that are no pass.
-use Rattle.std.proofs.Common.{◌≡◌, ◌≢◌, ◌⊎◌, ℕ, zero, suc, ◌+◌, ◌<◌, ◌≤◌, Bool, true, false, true≢false, cond, List, []}
-use Rattle.std.proofs.Common.{◌∷◌, ◌++◌, length, set, refl, sym, ap, subst, ◌∙◌, inl, inr, ⊎_elim, arith, length-append}
-use Rattle.std.proofs.Common.{le_refl}
-use Rattle.std.specs.Prelude.{Contains}
-use Rattle.std.proofs.lemmas.List.Elements.{Contains-append_left, Contains-append_right, Contains-append_cases}
-use mathlib.Core.Option.{some}
-use mathlib.Core.List.{IsPrefix}
-use mathlib.Core.Logic.{dite}
-use native.Mathlib.Decide.{ℕ_discrete}
-use lib.ListN.{get_elem?}
+use Rattle.std.proofs.Common.{◌≡◌, ◌≢◌, ℕ, ◌+◌, ◌≤◌, true, false, true≢false, cond, List, []}
+use Rattle.std.proofs.Common.{◌∷◌, ◌++◌, set, sym, ap, ◌∙◌, arith}
 use Rattle.book_gate.specs.Histories.{is_name}
 use Rattle.book_gate.specs.Names.{Lineage, child_name, IsGivenOut, IsTrueLine, AreApart, NamesAgree}
-use Rattle.book_gate.proofs.ListLemmas.{prefix_self, prefix_more, prefix_push, each_set, each_end, pairs_set, pairs_end}
-use Rattle.book_gate.proofs.ListLemmas.{contains_none, contains_one, contains_last}
-use Rattle.book_gate.proofs.HistoryLemmas.{is_name-self, is_name-true, is_name-apart}
+use Rattle.book_gate.proofs.ListLemmas.{prefix_self, each_set, each_end, pairs_set, pairs_end}
+use Rattle.book_gate.proofs.HistoryLemmas.{is_name-self, is_name-apart}
 
 -- The numbers of names given out, after one more of this name
 abbrev pub gives_one : (List ℕ → ℕ) → List ℕ → List ℕ → ℕ

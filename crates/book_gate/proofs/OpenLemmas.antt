@@ -1,36 +1,24 @@
 -- Opening a gate, and closing it.
-use Rattle.std.proofs.Common.{◌≡◌, ◌≢◌, ◌⊎◌, ℕ, zero, suc, ◌<◌, true, false, true≢false, List, [], ◌∷◌, ◌++◌, map}
-use Rattle.std.proofs.Common.{length, set, refl, sym, ap, subst, ◌∙◌, inl, inr, ⊎_elim, arith, length-append, Option}
-use Rattle.std.proofs.Common.{Some, None, is_some}
+use Rattle.std.proofs.Common.{◌≡◌, ℕ, zero, suc, true, false, true≢false, List, [], ◌∷◌, ◌++◌, map}
+use Rattle.std.proofs.Common.{length, refl, sym, ap, subst, ◌∙◌, inl, ⊎_elim, arith, length-append, Option}
+use Rattle.std.proofs.Common.{Some, is_some}
 use Rattle.std.specs.Prelude.{Contains}
-use Rattle.std.proofs.lemmas.List.{map-set, map-append}
-use mathlib.Core.Logic.{dite}
 use mathlib.Core.Option.{some, some-injective, some-ne-none}
 use mathlib.Core.List.{IsPrefix}
-use native.Mathlib.Decide.{ℕ_discrete}
 use lib.ListN.{get_elem?}
-use Rattle.atomic_table.specs.Table.{State, opening, Splits, Joins}
-use Rattle.atomic_table.proofs.Lists.{set_here, set_else, at_map}
+use Rattle.atomic_table.specs.Table.{State, opening}
+use Rattle.atomic_table.proofs.Lists.{at_map}
 use Rattle.book_gate.specs.declared.view.Signed.{Signed}
-use Rattle.book_gate.specs.declared.view.Lesson.{Lesson}
 use Rattle.book_gate.specs.declared.view.View.{View}
-use Rattle.book_gate.specs.Histories.{entries, entries_by}
-use Rattle.book_gate.specs.Names.{Lineage, IsTrueLine, NamesAgree, child_name}
-use Rattle.book_gate.specs.Views.{lineage, own_names, part_of, first_view, glimpse_view, spent_view, parent_view}
-use Rattle.book_gate.specs.Views.{child_view, joined_view, taught_view, longer, IsWhole}
-use Rattle.book_gate.specs.Rule.{ViewFits, IsSeen, GateRule}
-use Rattle.book_gate.proofs.ListLemmas.{prefix_length, prefix_whole, each_set, each_end, same_at, at_below}
-use Rattle.book_gate.proofs.ListLemmas.{contains_none, contains_one, contains_here, contains_there, contains_cases}
-use Rattle.book_gate.proofs.OptionLemmas.{no_value, none_of, not_true, some_same}
-use Rattle.book_gate.proofs.HistoryLemmas.{entries_by_between, entries_by_unknown_prefix}
-use Rattle.book_gate.proofs.NameLemmas.{gives_one, still_given, names_drop, names_more}
-use Rattle.book_gate.proofs.JoinNameLemmas.{joined_cases}
-use Rattle.book_gate.proofs.SplitNameLemmas.{names_split}
-use Rattle.book_gate.proofs.JoinNameLemmas.{names_join, alone}
-use Rattle.book_gate.proofs.QueueLemmas.{places_of_pass, queue_splits, queue_joins}
-use Rattle.book_gate.proofs.ViewLemmas.{fits_no_pass, names_same, still_seen, seen_end, IsLonger, longer_of}
-use Rattle.book_gate.proofs.ViewLemmas.{whole_between, home_same, home_end}
-use Rattle.book_gate.proofs.StepLemmas.{next_unknown, line_of}
+use Rattle.book_gate.specs.Histories.{entries}
+use Rattle.book_gate.specs.Names.{Lineage, IsTrueLine}
+use Rattle.book_gate.specs.Views.{lineage, first_view}
+use Rattle.book_gate.specs.Rule.{ViewFits, GateRule}
+use Rattle.book_gate.proofs.ListLemmas.{same_at}
+use Rattle.book_gate.proofs.ListLemmas.{contains_none}
+use Rattle.book_gate.proofs.OptionLemmas.{no_value, not_true, some_same}
+use Rattle.book_gate.proofs.JoinNameLemmas.{alone}
+use Rattle.book_gate.proofs.StepLemmas.{line_of}
 
 module _ {T A E : Type 0} (stands : T → A → List E → Type 0) (law : A → List E → E → Type 0) (start : A) where
   abbrev Table : Type 0

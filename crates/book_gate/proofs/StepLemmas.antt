@@ -1,34 +1,31 @@
 -- Taking a ticket, and a look that changes nothing, keep the rule of the gate.
-use Rattle.std.proofs.Common.{◌≡◌, ◌≢◌, ℕ, ◌+◌, ◌%◌, ◌^◌, ◌<◌, true, false, true≢false, List, [], ◌∷◌, ◌++◌, length}
-use Rattle.std.proofs.Common.{refl, sym, ap, subst, ◌∙◌, inl, inr, ⊎_elim, arith, length-append, Option, Some, None}
+use Rattle.std.proofs.Common.{◌≡◌, ℕ, ◌+◌, ◌%◌, ◌^◌, false, List, [], ◌∷◌, length}
+use Rattle.std.proofs.Common.{refl, sym, ap, subst, ◌∙◌, arith, Option, Some, None}
 use Rattle.std.proofs.Common.{is_some}
 use Rattle.std.specs.Prelude.{slice_index, slice_set, Contains}
 use Rattle.std.proofs.Math.Nat.{mod-add-mod}
-use Rattle.std.proofs.lemmas.List.Elements.{Contains-append_cases}
-use mathlib.Core.Logic.{dite}
 use mathlib.Core.Option.{some, none}
 use mathlib.Core.List.{IsPrefix}
-use native.Mathlib.Decide.{ℕ_discrete}
 use lib.ListN.{get_elem?}
 use lib.Seq.{set-get_or}
-use Rattle.atomic_table.specs.Table.{State, Act, keeps, takes, gives, step, stepped, Allows, Valid, carried_after}
-use Rattle.atomic_table.proofs.Lists.{set_here, set_again, at_map, one_turn}
+use Rattle.atomic_table.specs.Table.{State, keeps, step, Allows}
+use Rattle.atomic_table.proofs.Lists.{set_again, at_map}
 use Rattle.book_gate.specs.declared.view.Signed.{Signed}
 use Rattle.book_gate.specs.declared.view.View.{View}
-use Rattle.book_gate.specs.Histories.{Legal, entries, entries_by, signed}
+use Rattle.book_gate.specs.Histories.{Legal, entries, entries_by}
 use Rattle.book_gate.specs.Names.{child_name, IsGivenOut, IsTrueLine}
-use Rattle.book_gate.specs.Views.{lineage, places_of, with_ticket, at_turn, with_entry, at_rest}
+use Rattle.book_gate.specs.Views.{lineage, places_of, with_ticket}
 use Rattle.book_gate.specs.Rule.{ViewFits, GateRule}
-use Rattle.book_gate.specs.Steps.{AreNamed, taken, looked, counted, served, reviewed}
-use Rattle.book_gate.proofs.ListLemmas.{prefix_self, each_set, at_below, same_at, one_of_sum, contains_cases}
-use Rattle.book_gate.proofs.ListLemmas.{contains_one, contains_prefix, all_contained}
-use Rattle.book_gate.proofs.OptionLemmas.{bool_not, no_value, not_true, some_same}
-use Rattle.book_gate.proofs.HistoryLemmas.{legal_push, legal_prefix, entries-push, entries-prefix, entries_by-push}
-use Rattle.book_gate.proofs.HistoryLemmas.{entries_by-other, entries_by_unknown, entries_by_unknown_prefix}
+use Rattle.book_gate.specs.Steps.{AreNamed, taken, reviewed}
+use Rattle.book_gate.proofs.ListLemmas.{each_set, one_of_sum}
+use Rattle.book_gate.proofs.ListLemmas.{contains_prefix, all_contained}
+use Rattle.book_gate.proofs.OptionLemmas.{not_true, some_same}
+use Rattle.book_gate.proofs.HistoryLemmas.{legal_prefix, entries-prefix}
+use Rattle.book_gate.proofs.HistoryLemmas.{entries_by_unknown, entries_by_unknown_prefix}
 use Rattle.book_gate.proofs.NameLemmas.{next_is_new}
 use Rattle.book_gate.proofs.JoinNameLemmas.{all_joined}
-use Rattle.book_gate.proofs.QueueLemmas.{places_of_pass, few_out, queue_same, queue_takes, queue_serves}
-use Rattle.book_gate.proofs.ViewLemmas.{fits_more_tickets, fits_next, fits_longer, names_same, still_seen, home_same}
+use Rattle.book_gate.proofs.QueueLemmas.{places_of_pass, queue_takes}
+use Rattle.book_gate.proofs.ViewLemmas.{fits_more_tickets, names_same, still_seen, home_same}
 
 module _ {A E : Type 0} where
   -- What a pass has seen of a history in which each name was given out

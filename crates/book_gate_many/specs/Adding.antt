@@ -33,8 +33,8 @@ pub record Adds (times : ℕ) (pass later : Known ℕ Added) : Type 0 where
 -- Each pass did so
 abbrev pub EachAdds : ℕ → List (Known ℕ Added) → List (Known ℕ Added) → Type 0
 EachAdds times passes later =
-    (i : ℕ) (fallback : Known ℕ Added) → i < length passes → Adds times (slice_index_or passes i fallback)
-    (slice_index_or later i fallback)
+    (i : ℕ) (fallback : Known ℕ Added) → i < length passes
+    → Adds times (slice_index_or passes i fallback) (slice_index_or later i fallback)
 
 -- Whether the pass of this name made one of the entries
 abbrev pub has_made : List ℕ → List (Signed Added) → Bool

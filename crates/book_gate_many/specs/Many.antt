@@ -31,8 +31,7 @@ module _ {A E : Type 0} where
   pub record IsMany (pass : Known A E) (count : ℕ) (later : Known A E) (new : List (Known A E)) : Type 0 where
     pub becomes : later ≡ record pass {
       next = pass.next + count;
-      split =
-          pass.split ++ child_names pass.name pass.next count;
+      split = pass.split ++ child_names pass.name pass.next count;
       room = room_left pass.room count;
     }
     pub given : new ≡ children_of pass count
@@ -59,8 +58,7 @@ module _ {A E : Type 0} (law : A → List E → E → Type 0) where
     pub becomes : later ≡ record pass {
       seen = later.seen;
       split = split_with pass.split others;
-      joined =
-          joined_with pass.joined others;
+      joined = joined_with pass.joined others;
       room = room_with pass.room others;
     }
     pub own : Continues pass later

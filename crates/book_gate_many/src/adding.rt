@@ -13,6 +13,7 @@ pub fn add(rt: &impl Wait, gate: &Gate<Tally>, pass: &mut Pass<Tally>, times: u3
     requires { pass.old.gate ≡ gate.now }
     ensures { Adds times pass.old pass.new }
 {
+    // `i` is for the invariant, which counts the calls.
     for i in 0..times {
         gate.enter(rt, pass, Add { by: 1 });
     }

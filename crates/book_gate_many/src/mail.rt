@@ -97,6 +97,7 @@ fn correspond<N: GateName, M: GateName>(
     ensures goes_on { Adds 0 pass result }
     ensures told { 0 < times → has_made M.writer result.seen ≡ true }
 {
+    // `i` is for the invariant, which tells a first letter from none.
     for i in 0..times {
         to.put(rt, write(gate, &mut pass));
         read(gate, &mut pass, from.take(rt));

@@ -17,6 +17,7 @@ pub fn split_many<T: Held + Drop>(
     ensures { IfOk result (λ passes. IsMany pass.old count pass.new passes.items) }
 {
     let mut passes = Vec::new(alloc);
+    // `i` is for the invariant, which counts the passes.
     for i in 0..count {
         let new = gate.split(pass)?;
         passes.push(new)?;
