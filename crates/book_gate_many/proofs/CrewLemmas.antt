@@ -3,7 +3,7 @@ use Rattle.std.proofs.Common.{◌≡◌, ℕ, zero, suc, ◌+◌, ◌<◌, List,
 use Rattle.std.proofs.Common.{◌∙◌, subst, ⊎_elim, arith, length-append}
 use Rattle.std.specs.Prelude.{All, Contains, slice_index_or}
 use Rattle.std.proofs.lemmas.List.{map-append, reverse-append}
-use Rattle.std.proofs.lemmas.List.Elements.{Contains-append_left, Contains-append_right, Contains-append_cases}
+use Rattle.std.proofs.lemmas.List.Elements.{Contains-append_left, Contains-append_cases}
 use Rattle.book_gate.specs.Names.{child_name}
 use Rattle.book_gate.specs.Views.{room_share}
 use Rattle.book_gate.specs.Known.{TableId, Known, first_known}
@@ -11,7 +11,7 @@ use Rattle.book_gate.proofs.ListLemmas.{contains_none, contains_one, contains_he
 use Rattle.book_gate.proofs.ListLemmas.{contains_cases, contains_at}
 use Rattle.book_gate_many.specs.declared.tally.Added.{Added}
 use Rattle.book_gate_many.specs.Many.{child_names, room_left, child_of, children_of, IsMany}
-use Rattle.book_gate_many.specs.Adding.{HasAdded, Adds, EachAdds}
+use Rattle.book_gate_many.specs.Adding.{Adds, EachAdds}
 use Rattle.book_gate_many.specs.Crews.{names_of, IsLeaf, IsCrew, HaveAdded}
 use Rattle.book_gate_many.proofs.AddingLemmas.{made_more}
 

@@ -1,6 +1,6 @@
 -- The total of a crew, from the entries of each of its passes.
 use Rattle.std.proofs.Common.{◌≡◌, ◌≢◌, ◌⊎◌, ℕ, zero, suc, ◌+◌, ◌*◌, ◌%◌, ◌^◌, ◌<◌, ◌≤◌, Bool, true, false, cond, List}
-use Rattle.std.proofs.Common.{[], ◌∷◌, ◌++◌, map, length, reverse, Some, refl, sym, ap, ◌∙◌, subst, inl, inr, ⊎_elim}
+use Rattle.std.proofs.Common.{[], ◌∷◌, ◌++◌, length, reverse, Some, refl, sym, ap, ◌∙◌, subst, inl, inr, ⊎_elim}
 use Rattle.std.proofs.Common.{arith}
 use Rattle.std.specs.Prelude.{All, Contains, slice_index}
 use Rattle.std.proofs.Math.Nat.{mod-add-mod}
@@ -18,7 +18,7 @@ use Rattle.book_gate.proofs.HistoryLemmas.{is_name-self, is_name-apart}
 use Rattle.book_gate_many.specs.declared.tally.Added.{Added}
 use Rattle.book_gate_many.specs.Tallies.{total_of, added}
 use Rattle.book_gate_many.specs.Many.{child_names, joined_with, IsAllJoined}
-use Rattle.book_gate_many.specs.Adding.{ones_by, HasAdded}
+use Rattle.book_gate_many.specs.Adding.{ones_by}
 use Rattle.book_gate_many.specs.Crews.{names_of, IsLeaf, IsCrew, HaveAdded}
 use Rattle.book_gate_many.proofs.ManyLemmas.{all_back}
 use Rattle.book_gate_many.proofs.AddingLemmas.{length-ones}

@@ -1,4 +1,4 @@
-use Rattle.std.proofs.Common.{◌≡◌, ◌+◌, ℕ, arith}
+use Rattle.std.proofs.Common.{◌≡◌, ◌+◌, arith}
 use Rattle.book_gate_many.proofs.CrewLemmas.{crew_gates, crew_goes_on, have_more}
 use Rattle.book_gate_many.proofs.TotalLemmas.{count_and_times}
 use Rattle.book_gate_many.proofs.crew.total_beside.Goals as goal

@@ -1,6 +1,6 @@
 use Rattle.std.proofs.Common.{subst}
 use Rattle.book_gate_many.specs.Adding.{Adds}
-use Rattle.book_gate_many.proofs.AddingLemmas.{adds_both, still_made}
+use Rattle.book_gate_many.proofs.AddingLemmas.{adds_both}
 use Rattle.book_gate_many.proofs.mail.correspond.Goals as goal
 
 pub loop-i-preserved : goal.loop-i-preserved

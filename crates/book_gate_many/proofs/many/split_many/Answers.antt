@@ -1,5 +1,4 @@
-use Rattle.std.proofs.Common.{◌≡◌, suc, ◌+◌, ◌++◌, ◌∷◌, [], rules, arith, subst}
-use Rattle.book_gate_many.specs.Many.{IsMany}
+use Rattle.std.proofs.Common.{◌≡◌, ◌++◌, ◌∷◌, [], rules}
 use Rattle.book_gate_many.proofs.ManyLemmas.{none_split, one_more_split}
 use Rattle.book_gate_many.proofs.many.split_many.Goals as goal
 
