@@ -2,8 +2,13 @@ pub mod ListLemmas
 pub mod OptionLemmas
 pub mod HistoryLemmas
 pub mod NameLemmas
+pub mod SplitNameLemmas
+pub mod JoinNameLemmas
 pub mod QueueLemmas
 pub mod ViewLemmas
 pub mod StepLemmas
-pub mod PassLemmas
+pub mod TurnLemmas
+pub mod SplitLemmas
+pub mod JoinLemmas
+pub mod OpenLemmas
 pub mod CallLemmas

@@ -4,9 +4,11 @@ use mathlib.Core.List.{IsPrefix}
 use Rattle.book_gate.specs.declared.view.Signed.{Signed}
 
 module _ {T A E : Type 0} (stands : T → A → List E → Type 0) (law : A → List E → E → Type 0) where
-  -- Whatever history the old state stands for, the new one stands for that history with the entry, which the law allows there
+  -- Whatever history the old state stands for, the new one stands for that history with the entry, which the law allows
+  -- there
   abbrev pub Follows : T → T → E → Type 0
-  Follows before after entry = (start : A) (history : List E) → stands before start history → stands after start (history ++ entry ∷ []) × law start history entry
+  Follows before after entry = (start : A) (history : List E) → stands before start history
+      → stands after start (history ++ entry ∷ []) × law start history entry
 
 module _ {A E : Type 0} (law : A → List E → E → Type 0) where
   -- The law allows each entry behind those before it

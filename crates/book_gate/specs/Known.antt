@@ -7,7 +7,8 @@ use Rattle.book_gate.specs.declared.view.View.{View}
 use Rattle.book_gate.specs.Histories.{entries_by}
 use Rattle.book_gate.specs.Views.{first_view, tickets_in}
 
--- A pass: its gate, what that was opened with, its name, how many names it gave out, what it has seen, the names that it and the passes joined into it gave out, and the names of those passes
+-- A pass: its gate, what that was opened with, its name, how many names it gave out, what it has seen, the names that
+-- it and the passes joined into it gave out, the names of those passes, and how many passes may still come from it
 pub record Known (A E : Type 0) : Type 0 where
   pub gate : TableId
   pub start : Option A
@@ -16,6 +17,7 @@ pub record Known (A E : Type 0) : Type 0 where
   pub seen : List (Signed E)
   pub split : List (List ℕ)
   pub joined : List (List ℕ)
+  pub room : ℕ
 
 -- A glimpse: its gate, and what was seen
 pub record Glimpsed (E : Type 0) : Type 0 where
@@ -29,7 +31,16 @@ module _ {A E : Type 0} where
 
   -- The pass that has a view of a table
   abbrev pub known_at : TableId → View A E → Known A E
-  known_at gate view = record { gate = gate; start = view.start; name = view.name; next = view.next; seen = view.seen; split = view.split; joined = view.joined }
+  known_at gate view = record {
+    gate = gate;
+    start = view.start;
+    name = view.name;
+    next = view.next;
+    seen = view.seen;
+    split = view.split;
+    joined = view.joined;
+    room = view.room;
+  }
 
   -- The first pass of a gate
   abbrev pub first_known : TableId → A → Known A E

@@ -11,7 +11,8 @@ use Rattle.book_gate.specs.Views.{KeepsLesson, own_names, with_ticket, at_turn, 
 module _ {E : Type 0} where
   -- Where the first pass has all others joined into it, each entry is its own or one of theirs
   abbrev pub AreNamed : List ℕ → List (List ℕ) → List (List ℕ) → List (Signed E) → Type 0
-  AreNamed name split joined seen = name ≡ [] → All (Contains joined) split → (x : Signed E) → Contains seen x → (x.name ≡ []) ⊎ Contains joined x.name
+  AreNamed name split joined seen = name ≡ [] → All (Contains joined) split → (x : Signed E) → Contains seen x
+      → (x.name ≡ []) ⊎ Contains joined x.name
 
 module _ {A E : Type 0} (law : A → List E → E → Type 0) where
   -- What the view has seen is legal from its start
@@ -28,8 +29,10 @@ module _ {A E : Type 0} (law : A → List E → E → Type 0) where
 
   -- Counting the entry adds just it to the view's own entries, none to the joined ones, and leaves a legal history
   pub record Counts (view : View A E) (entry : E) : Type 0 where
-    pub mine : entries_by view.name (with_entry view entry).seen ≡ entries_by view.name view.seen ++ signed view.name entry ∷ []
-    pub joined : (name : List ℕ) → Contains view.joined name → entries_by name (with_entry view entry).seen ≡ entries_by name view.seen
+    pub mine : entries_by view.name (with_entry view entry).seen
+        ≡ entries_by view.name view.seen ++ signed view.name entry ∷ []
+    pub joined : (name : List ℕ) → Contains view.joined name
+        → entries_by name (with_entry view entry).seen ≡ entries_by name view.seen
     pub legal : SeesLegal (with_entry view entry)
     pub named : AreNamed view.name view.split view.joined (with_entry view entry).seen
 
@@ -48,10 +51,12 @@ module _ {S A E : Type 0} where
 
   -- The entry that was said is counted
   abbrev pub counted : (A → List E → E → Type 0) → Option E → Step S → Me S (View A E) → ℕ → Me S (View A E) → Type 0
-  counted law said step me found me' = (entry : E) → said ≡ Some entry → (me' ≡ (with_entry me.0 entry, me.1)) × Counts law me.0 entry
+  counted law said step me found me' = (entry : E) → said ≡ Some entry
+      → (me' ≡ (with_entry me.0 entry, me.1)) × Counts law me.0 entry
 
 module _ {T A E : Type 0} (stands : T → A → List E → Type 0) where
-  -- The pass has the state, has seen the history that it stands for, and finds there no entry of its names that it hadn't seen
+  -- The pass has the state, has seen the history that it stands for, and finds there no entry of its names that it
+  -- hadn't seen
   pub record GetsTurn (me me' : Me (Option T) (View A E)) : Type 0 where
     pub state : T
     pub history : List (Signed E)
@@ -62,4 +67,5 @@ module _ {T A E : Type 0} (stands : T → A → List E → Type 0) where
 
   -- Where the number served is the ticket's, the turn has come; else nothing changes
   abbrev pub looked : Step (Option T) → Me (Option T) (View A E) → ℕ → Me (Option T) (View A E) → Type 0
-  looked step me found me' = (k : ℕ) → me.0.ticket ≡ Some k → (found ≢ k % 2 ^ 64 → me' ≡ me) × (found ≡ k % 2 ^ 64 → GetsTurn me me')
+  looked step me found me' = (k : ℕ) → me.0.ticket ≡ Some k
+      → (found ≢ k % 2 ^ 64 → me' ≡ me) × (found ≡ k % 2 ^ 64 → GetsTurn me me')

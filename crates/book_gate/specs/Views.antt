@@ -1,5 +1,6 @@
 -- Views, and how each step changes them.
-use Rattle.std.specs.Prelude.{◌≡◌, ℕ, ◌+◌, ◌-◌, ◌/◌, true, false, List, [], ◌∷◌, ◌++◌, length, Option, Some, None, is_some, cond, nat_lt, Contains}
+use Rattle.std.specs.Prelude.{◌≡◌, ℕ, ◌+◌, ◌-◌, ◌/◌, true, false, List, [], ◌∷◌, ◌++◌, length, Option, Some, None}
+use Rattle.std.specs.Prelude.{is_some, cond, nat_lt, Contains}
 use mathlib.Core.List.{IsPrefix}
 use Rattle.book_gate.specs.declared.view.Signed.{Signed}
 use Rattle.book_gate.specs.declared.view.Part.{Part}
@@ -22,17 +23,28 @@ tickets_in None = 0
 tickets_in (Some k) = 1
 
 module _ {A E : Type 0} where
-  -- The view of the first pass
-  abbrev pub first_view : A → View A E
-  first_view start = record { start = Some start; name = []; seen = []; ticket = None; turn = false; room = first_room; next = 0; split = []; joined = []; lesson = None }
-
   -- The view of a glimpse: what was seen, and nothing else
   abbrev pub glimpse_view : List (Signed E) → View A E
-  glimpse_view seen = record { start = None; name = []; seen = seen; ticket = None; turn = false; room = 0; next = 0; split = []; joined = []; lesson = None }
+  glimpse_view seen = record {
+    start = None;
+    name = [];
+    seen = seen;
+    ticket = None;
+    turn = false;
+    room = 0;
+    next = 0;
+    split = [];
+    joined = [];
+    lesson = None;
+  }
 
   -- The view that a joined pass or a learned glimpse leaves
   abbrev pub spent_view : View A E
   spent_view = glimpse_view []
+
+  -- The view of the first pass
+  abbrev pub first_view : A → View A E
+  first_view start = record (glimpse_view []) { start = Some start; room = first_room }
 
   -- The ticket that is out with the view
   abbrev pub ticket_of : View A E → Option ℕ
@@ -48,7 +60,13 @@ module _ {A E : Type 0} where
 
   -- What the view says of names
   abbrev pub lineage : View A E → Lineage
-  lineage view = record { live = is_some view.start; name = view.name; next = view.next; split = view.split; joined = view.joined }
+  lineage view = record {
+    live = is_some view.start;
+    name = view.name;
+    next = view.next;
+    split = view.split;
+    joined = view.joined;
+  }
 
   -- The names of which the view has seen all entries: its own, and those joined into it
   abbrev pub own_names : View A E → List (List ℕ)
@@ -76,11 +94,19 @@ module _ {A E : Type 0} where
 
   -- One more name was given out
   abbrev pub parent_view : View A E → View A E
-  parent_view view = record view { next = view.next + 1; split = view.split ++ child_name view.name view.next ∷ []; room = view.room - (room_share view.room + 1) }
+  parent_view view = record view {
+    next = view.next + 1;
+    split = view.split ++ child_name view.name view.next ∷ [];
+    room = view.room - (room_share view.room + 1);
+  }
 
   -- The view of the pass that has the name
   abbrev pub child_view : View A E → View A E
-  child_view view = record { start = view.start; name = child_name view.name view.next; seen = view.seen; ticket = None; turn = false; room = room_share view.room; next = 0; split = []; joined = []; lesson = None }
+  child_view view = record (glimpse_view view.seen) {
+    start = view.start;
+    name = child_name view.name view.next;
+    room = room_share view.room;
+  }
 
 module _ {E : Type 0} where
   -- The longer of two lists of entries
@@ -112,4 +138,5 @@ module _ {A E : Type 0} where
 
   -- What the last join or glimpse brought is seen, and each side's own entries are those that it had
   abbrev pub KeepsLesson : View A E → Type 0
-  KeepsLesson view = (lesson : Lesson E) → view.lesson ≡ Some lesson → IsWhole view.seen lesson.own × IsWhole view.seen lesson.other
+  KeepsLesson view = (lesson : Lesson E) → view.lesson ≡ Some lesson
+      → IsWhole view.seen lesson.own × IsWhole view.seen lesson.other

@@ -1,5 +1,6 @@
 //! The gate: a ticket lock round the state.
-ghost use Rattle.std.specs.Prelude.{◌≡◌, ◌++◌, ◌∷◌, [], None, Some, IfOk, IfErr, OnErr, All, Contains};
+ghost use Rattle.std.specs.Prelude.{◌≡◌, ◌↔◌, ◌++◌, ◌∷◌, [], None, Some, IfOk, IfErr, IsErr, OnErr};
+ghost use Rattle.std.specs.Prelude.{All, Contains};
 ghost use Rattle.book_gate.specs.Views.{at_rest, with_entry};
 ghost use Rattle.book_gate.specs.Steps.{Counts, GetsTurn};
 ghost use Rattle.book_gate.specs.Known.{first_known};
@@ -8,10 +9,10 @@ ghost use Rattle.book_gate.specs.Turns.{IsSameSeat, IsWaiting, IsReady};
 
 use crate::glimpse::Glimpse;
 use crate::held::{Call, Held};
-use crate::no_memory::NoMemory;
 use crate::pass::Pass;
 use crate::steps::{Count, Family, Look, Lore, Review, Said, Serve, Take};
 use crate::view::{Board, Place};
+use answers::NoMemory;
 use atomic_table::{Refused, Table};
 use std::alloc::{AllocFailed, Global};
 use std::marker::{Brand, Model};
@@ -27,7 +28,7 @@ const SERVING: usize = 1;
 // The word that counts the entries.
 const COUNT: usize = 2;
 
-// How many passes may come from the first one, so that there are never more than 2^62.
+// The room of the first pass: how many may come from it, so that there are never more than 2^62.
 const FIRST_ROOM: u64 = 4_611_686_018_427_387_903;
 
 // A new pass has this part of the room of the pass that it was split off.
@@ -55,7 +56,8 @@ impl<T: Held> Model for Gate<T> {
 
     ghost view = { λ gate. gate.table.shared.table_id };
 
-    ghost invariant = { λ gate. (gate.table.shared.table_id.words ≡ 3) × (gate.table.shared.table_id.slots ≡ 1) };
+    ghost invariant = { λ gate. (gate.table.shared.table_id.words ≡ 3)
+        × (gate.table.shared.table_id.slots ≡ 1) };
 }
 
 impl<T: Held> Gate<T> {
@@ -92,11 +94,13 @@ impl<T: Held> Gate<T> {
         }
     }
 
-    /// A new pass, which has the next name of this pass, has seen as much and has made no call. The only refusal is for want of
-    /// memory: passes are counted, and the count of those that may still come from this pass is 0. This pass is then unchanged.
+    /// A new pass, which has the next name of this pass, has seen as much and has made no call. Passes are counted:
+    /// each has room for those that may still come from it, and gives a part of its room to a new one. It is refused
+    /// exactly where this pass has no room left. This pass is then unchanged.
     pub fn split(&self, pass: &mut Pass<T>) -> Result<Pass<T>, NoMemory>
         requires { pass.old.gate ≡ self.now }
         ensures new { IfOk result (λ child. IsSplit T.law pass.old pass.new child) }
+        ensures refused { IsErr result ↔ (pass.old.room ≡ 0) }
         ensures same { OnErr result (pass.new ≡ pass.old) }
     {
         self.table.shared.load::<Review<T>>(&mut pass.seat, SERVING);
@@ -109,8 +113,8 @@ impl<T: Held> Gate<T> {
         Ok(Pass { seat, room })
     }
 
-    /// Takes the other pass in. This one has then seen the longer of what the two had seen, which goes on from the shorter, and has
-    /// the other's names beside its own.
+    /// Takes the other pass in. This one has then seen the longer of what the two had seen, which goes on from the
+    /// shorter, and has the other's names beside its own.
     pub fn join(&self, pass: &mut Pass<T>, other: Pass<T>)
         requires pass { pass.old.gate ≡ self.now }
         requires other { other.gate ≡ self.now }
@@ -122,7 +126,8 @@ impl<T: Held> Gate<T> {
         pass.room += room + 1;
     }
 
-    /// What the pass has seen, to be handed to another pass. The pass stays as it is. It is never refused, and uses nothing up.
+    /// What the pass has seen, to be handed to another pass. The pass stays as it is. It is never refused, and uses
+    /// nothing up.
     pub fn glimpse(&self, pass: &mut Pass<T>) -> Glimpse<T>
         requires { pass.old.gate ≡ self.now }
         ensures glimpse { (result.gate ≡ self.now) × (result.seen ≡ pass.old.seen) }
@@ -132,8 +137,8 @@ impl<T: Held> Gate<T> {
         Glimpse { seat }
     }
 
-    /// The pass has then seen the longer of what it and the glimpse had seen, which goes on from the shorter. Nothing else of it
-    /// changes.
+    /// The pass has then seen the longer of what it and the glimpse had seen, which goes on from the shorter. Nothing
+    /// else of it changes.
     pub fn learn(&self, pass: &mut Pass<T>, glimpse: Glimpse<T>)
         requires pass { pass.old.gate ≡ self.now }
         requires glimpse { glimpse.gate ≡ self.now }
@@ -144,7 +149,8 @@ impl<T: Held> Gate<T> {
         self.table.shared.load::<Review<T>>(&mut pass.seat, SERVING);
     }
 
-    /// The state, which stands for what the pass has seen. The pass is the first one, and all others have been joined into it.
+    /// The state, which stands for what the pass has seen. The pass is the first one, and all others have been joined
+    /// into it.
     pub fn close(self, pass: Pass<T>) -> T
         requires gate { pass.gate ≡ self }
         requires first { pass.name ≡ [] }
@@ -160,8 +166,8 @@ impl<T: Held> Gate<T> {
         state
     }
 
-    /// Makes a call. Its entry stands in the history once, under the pass's name, behind all that the pass had seen. It may wait for
-    /// the calls of others, and its promise holds where it returns.
+    /// Makes a call. Its entry stands in the history once, under the pass's name, behind all that the pass had seen. It
+    /// may wait for the calls of others, and its promise holds where it returns.
     pub fn enter<C: Call<T>, R: Wait>(&self, rt: &R, pass: &mut Pass<T>, call: C) -> C::Answer
         requires gate { pass.old.gate ≡ self.now }
         requires can { C.can call }
@@ -210,9 +216,11 @@ impl<T: Held> Gate<T> {
         requires gate { seat.old.table_id ≡ self.now }
         requires said { W.entry ≡ Some (C.entry call.value answer.now) }
         requires out { seat.old.me.1 ≡ (0, None) ∷ [] }
-        requires ready { IsReady T.stands T.law seat.old.me.0 state (C.entry call.value answer.now) }
+        requires ready { IsReady T.stands T.law seat.old.me.0 state
+            (C.entry call.value answer.now) }
         ensures gate { IsSameSeat seat.old seat.new }
-        ensures view { seat.new.me ≡ (at_rest (with_entry seat.old.me.0 (C.entry call.value answer.now)), []) }
+        ensures view { seat.new.me
+            ≡ (at_rest (with_entry seat.old.me.0 (C.entry call.value answer.now)), []) }
         ensures counts { Counts T.law seat.old.me.0 (C.entry call.value answer.now) }
     {
         let shared = &self.table.shared;

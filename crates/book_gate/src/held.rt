@@ -10,10 +10,10 @@ pub trait Held {
     /// What a history keeps of a call: its arguments and its answer.
     type Entry;
 
-    // The state stands for these entries, from this start.
+    /// The state stands for these entries, from this start.
     ghost stands: { Self → Self.Start → List Self.Entry → Type 0 };
 
-    // The entry may come behind these entries.
+    /// The entry may come behind these entries.
     ghost law: { Self.Start → List Self.Entry → Self.Entry → Type 0 };
 }
 
@@ -22,10 +22,10 @@ pub trait Call<T: Held> {
     /// What the caller is told.
     type Answer;
 
-    // The call may be made. It speaks of the call alone.
+    /// The call may be made. It speaks of the call alone.
     ghost can: { Self → Type 0 };
 
-    // What the history keeps of the call and its answer.
+    /// What the history keeps of the call and its answer.
     ghost entry: { Self → Self.Answer → T.Entry };
 
     /// Makes the call. The history of the state gets the call's entry, which the law allows there.

@@ -3,8 +3,9 @@ use crate::held::Held;
 use crate::view::Place;
 use std::marker::Model;
 
-/// A thread makes calls with its own. Contracts see its gate, that gate's start, its name, the entries that it has seen, the names
-/// that it gave out and the names of the passes that were joined into it. It takes no memory but for a number.
+/// A thread makes calls with its own. Contracts see its gate, that gate's start, its name, the entries that it has
+/// seen, the names that it gave out, the names of the passes that were joined into it, and its room: how many passes
+/// may still come from it. It takes no memory but for that number.
 #[derive(Drop)]
 pub struct Pass<T: Held> {
     pub(crate) seat: Place<T>,

@@ -1,6 +1,7 @@
 //! What each step on the gate's table tells.
 ghost use Rattle.book_gate.specs.Steps.{taken, looked, counted, served, reviewed};
-ghost use Rattle.book_gate.specs.Views.{parent_view, child_view, joined_view, taught_view, glimpse_view, spent_view};
+ghost use Rattle.book_gate.specs.Views.{parent_view, child_view, joined_view, taught_view};
+ghost use Rattle.book_gate.specs.Views.{glimpse_view, spent_view};
 
 use crate::held::Held;
 use crate::view::View;
@@ -20,14 +21,14 @@ impl<E> Said<E> for Brand {
     ghost entry = { None };
 }
 
-/// Takes a ticket.
+// Takes a ticket.
 pub(crate) struct Take;
 
 impl<S, A, E> Play<S, View<A, E>> for Take {
     ghost then = { taken };
 }
 
-/// Looks whether the turn has come, and takes the state then.
+// Looks whether the turn has come, and takes the state then.
 pub(crate) struct Look<T> {
     held: PhantomData<T>,
 }
@@ -36,7 +37,7 @@ impl<T: Held> Play<Option<T>, View<T::Start, T::Entry>> for Look<T> {
     ghost then = { looked T.stands };
 }
 
-/// Counts an entry.
+// Counts an entry.
 pub(crate) struct Count<T, W> {
     held: PhantomData<(T, W)>,
 }
@@ -45,14 +46,14 @@ impl<T: Held, W: Said<T::Entry>> Play<Option<T>, View<T::Start, T::Entry>> for C
     ghost then = { counted T.law W.entry };
 }
 
-/// Gives the state back, and serves the next ticket.
+// Gives the state back, and serves the next ticket.
 pub(crate) struct Serve;
 
 impl<S, A, E> Play<S, View<A, E>> for Serve {
     ghost then = { served };
 }
 
-/// Asks what the rule says of a pass.
+// Asks what the rule says of a pass.
 pub(crate) struct Review<T> {
     held: PhantomData<T>,
 }
@@ -61,7 +62,7 @@ impl<T: Held> Play<Option<T>, View<T::Start, T::Entry>> for Review<T> {
     ghost then = { reviewed T.law };
 }
 
-/// Splits a pass off a pass, and joins one into another.
+// Splits a pass off a pass, and joins one into another.
 pub(crate) struct Family;
 
 impl<A, E> Split<View<A, E>> for Family {
@@ -76,7 +77,7 @@ impl<A, E> Join<View<A, E>> for Family {
     ghost spent = { spent_view };
 }
 
-/// Makes a glimpse of a pass, and teaches a pass by one.
+// Makes a glimpse of a pass, and teaches a pass by one.
 pub(crate) struct Lore;
 
 impl<A, E> Split<View<A, E>> for Lore {

@@ -1,6 +1,6 @@
-//! What the gate's table knows of each pass and glimpse. No value of a view is made: they exist in proofs alone.
-//! Word 0 counts the tickets that were taken, word 1 the turns that were served, and word 2 the entries, each modulo 2^64.
-//! The slot has the state.
+//! What the gate's table knows of each pass and glimpse. No value of a view is made: they exist in proofs alone. Word 0
+//! counts the tickets that were taken, word 1 the turns that were served, and word 2 the entries, each modulo 2^64. The
+//! slot has the state.
 use crate::held::Held;
 use atomic_table::{Seat, Table, TableRule};
 use std::alloc::Global;

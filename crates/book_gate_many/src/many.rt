@@ -5,8 +5,8 @@ ghost use Rattle.book_gate_many.specs.Many.{IsMany, IsAllJoined, Closes};
 use book_gate::{Gate, Held, NoMemory, Pass};
 use std::alloc::Global;
 
-/// Splits `count` passes off a pass: they have its next names, and have seen as much as it. Where there is no memory, those that
-/// were split off are lost.
+/// Splits `count` passes off a pass: they have its next names, have seen as much as it and have made no call. Where
+/// there is no memory, or the pass has no room left, those that were split off are lost.
 pub fn split_many<T: Held + Drop>(
     alloc: Global,
     gate: &Gate<T>,
@@ -17,6 +17,7 @@ pub fn split_many<T: Held + Drop>(
     ensures { IfOk result (λ passes. IsMany pass.old count pass.new passes.items) }
 {
     let mut passes = Vec::new(alloc);
+    // `i` is for the invariant, which counts the passes.
     for i in 0..count {
         let new = gate.split(pass)?;
         passes.push(new)?;
@@ -24,26 +25,27 @@ pub fn split_many<T: Held + Drop>(
     Ok(passes)
 }
 
-/// Joins passes into a pass, in the order of the list, which may be any. It has then seen what each of them had, and each one's
-/// entries are those that it had made.
+/// Joins passes into a pass, in the order of the list, which may be any. It has then seen what each of them had, and
+/// each one's entries are those that it had made.
 pub fn join_many<T: Held + Drop>(gate: &Gate<T>, pass: &mut Pass<T>, passes: Vec<Pass<T>>)
     requires pass { pass.old.gate ≡ gate.now }
     requires passes { All (λ other. other.gate ≡ gate.now) passes.items }
-    ensures { IsAllJoined pass.old passes.items pass.new }
+    ensures { IsAllJoined T.law pass.old passes.items pass.new }
 {
     for other in passes {
         gate.join(pass, other);
     }
 }
 
-/// Closes a gate whose first pass gave out no names but those of these passes, which gave out none. They are joined in the order of
-/// the list, which may be any.
+/// Closes a gate whose first pass gave out no names but those of these passes, which gave out none. They are joined in
+/// the order of the list, which may be any.
 pub fn close_many<T: Held + Drop>(gate: Gate<T>, mut pass: Pass<T>, passes: Vec<Pass<T>>) -> T
     requires first { (pass.gate ≡ gate) × (pass.name ≡ []) }
     requires passes { All (λ other. other.gate ≡ gate) passes.items }
-    requires names { (name : _) → Contains pass.split name → Contains (map (λ other. other.name) passes.items) name }
+    requires names { (name : _) → Contains pass.split name
+        → Contains (map (λ other. other.name) passes.items) name }
     requires leaves { (other : _) → Contains passes.items other → other.split ≡ [] }
-    ensures { Closes T.stands pass passes.items result }
+    ensures { Closes T.stands T.law pass passes.items result }
 {
     join_many(&gate, &mut pass, passes);
     gate.close(pass)

@@ -1,5 +1,6 @@
 -- Lists of numbers, with one put in and with one taken out.
-use Rattle.std.proofs.Common.{◌≡◌, ◌≢◌, ℕ, ◌+◌, true, false, cond, ◌||◌, List, [], ◌∷◌, ◌++◌, length, eqb, refl, sym, ap, ◌∙◌, arith}
+use Rattle.std.proofs.Common.{◌≡◌, ◌≢◌, ℕ, ◌+◌, true, false, cond, ◌||◌, List, [], ◌∷◌, ◌++◌, length, eqb, refl, sym}
+use Rattle.std.proofs.Common.{ap, ◌∙◌, arith}
 use Rattle.std.proofs.lemmas.Grind.{common_steps}
 use Rattle.std.proofs.lemmas.Bool.{false≢true}
 use Rattle.linked_pending.specs.Listing.{Listing, has, AreApart, without, put_before}
@@ -29,22 +30,27 @@ without_absent item (first ∷ rest) absent =
     let same_rest = without_absent item rest absent_rest in
     grind (arith, common_steps)
 
-pub length-without : (item : ℕ) (items : List ℕ) → AreApart items → has item items ≡ true → length (without item items) + 1 ≡ length items
+pub length-without : (item : ℕ) (items : List ℕ) → AreApart items → has item items ≡ true
+    → length (without item items) + 1 ≡ length items
 length-without item [] apart there = grind (arith, common_steps)
 length-without item (first ∷ rest) apart there =
-    let here : eqb item first ≡ true → without item rest ≡ rest = λ (same : _). without_absent item rest (grind (arith, common_steps, apart.0)) in
-    let later : eqb item first ≡ false → length (without item rest) + 1 ≡ length rest = λ (other : _). length-without item rest apart.1 (grind (arith, common_steps)) in
+    let here : eqb item first ≡ true → without item rest ≡ rest = λ (same : _).
+    without_absent item rest (grind (arith, common_steps, apart.0)) in
+    let later : eqb item first ≡ false → length (without item rest) + 1 ≡ length rest = λ (other : _).
+    length-without item rest apart.1 (grind (arith, common_steps)) in
     grind (arith, common_steps, here, later)
 
 pub length-put_before : (spot item : ℕ) (items : List ℕ) → length (put_before spot item items) ≡ length items + 1
 length-put_before spot item [] = grind (arith, common_steps)
 length-put_before spot item (first ∷ rest) = grind (arith, common_steps, length-put_before spot item rest)
 
-pub has-without : (item gone : ℕ) (items : List ℕ) → has item (without gone items) ≡ cond (eqb item gone) false (has item items)
+pub has-without : (item gone : ℕ) (items : List ℕ) → has item (without gone items)
+    ≡ cond (eqb item gone) false (has item items)
 has-without item gone [] = grind (arith, common_steps)
 has-without item gone (first ∷ rest) = grind (arith, common_steps, has-without item gone rest)
 
-pub has-put_before : (item spot new : ℕ) (items : List ℕ) → has item (put_before spot new items) ≡ (eqb item new || has item items)
+pub has-put_before : (item spot new : ℕ) (items : List ℕ) → has item (put_before spot new items)
+    ≡ (eqb item new || has item items)
 has-put_before item spot new [] = grind (arith, common_steps)
 has-put_before item spot new (first ∷ rest) = grind (arith, common_steps, has-put_before item spot new rest)
 
@@ -56,11 +62,13 @@ apart-without gone (first ∷ rest) apart =
       | false ↦ (grind (arith, common_steps, has-without first gone rest, apart.0), apart-without gone rest apart.1)
     ]
 
-pub apart-put_before : (spot new : ℕ) (items : List ℕ) → AreApart items → has new items ≡ false → AreApart (put_before spot new items)
+pub apart-put_before : (spot new : ℕ) (items : List ℕ) → AreApart items → has new items ≡ false
+    → AreApart (put_before spot new items)
 apart-put_before spot new [] apart absent = (refl, tt)
 apart-put_before spot new (first ∷ rest) apart absent =
     let absent_rest : has new rest ≡ false = grind (arith, common_steps) in
-    let first_once : has first (put_before spot new rest) ≡ false = grind (arith, common_steps, has-put_before first spot new rest, apart.0) in
+    let first_once : has first (put_before spot new rest) ≡ false =
+    grind (arith, common_steps, has-put_before first spot new rest, apart.0) in
     elim (eqb spot first) as (λ test. AreApart (cond test (new ∷ first ∷ rest) (first ∷ put_before spot new rest))) [
       | true ↦ (absent, (apart.0, apart.1))
       | false ↦ (first_once, apart-put_before spot new rest apart.1 absent_rest)

@@ -1,5 +1,6 @@
 -- Groups in one flat list of places: for each group its nodes, and then a place that marks its end.
-use Rattle.std.specs.Prelude.{◌≡◌, ℕ, ◌+◌, ◌-◌, ◌*◌, ◌/◌, ◌%◌, Bool, true, false, ◌||◌, List, [], ◌∷◌, ◌==◌, if◌then◌else◌, ⊤}
+use Rattle.std.specs.Prelude.{◌≡◌, ℕ, ◌+◌, ◌-◌, ◌*◌, ◌/◌, ◌%◌, Bool, true, false, ◌||◌, List, [], ◌∷◌, ◌==◌}
+use Rattle.std.specs.Prelude.{if◌then◌else◌, ⊤}
 use Rattle.linked_pending.specs.Listing.{has, put_before}
 use Rattle.linked_pending.specs.Links.{link}
 use Rattle.linked_pending.specs.Group.{Group, group_with}

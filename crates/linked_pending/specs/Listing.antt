@@ -1,5 +1,6 @@
 -- Lists of numbers, each at most once: nodes, and the places at which a table keeps them.
-use Rattle.std.specs.Prelude.{◌≡◌, ℕ, Bool, false, List, [], ◌∷◌, ◌==◌, nat_eq, if◌then◌else◌, Option, None, slice_get, ⊤}
+use Rattle.std.specs.Prelude.{◌≡◌, ℕ, Bool, false, List, [], ◌∷◌, ◌==◌, nat_eq, if◌then◌else◌, Option, None, slice_get}
+use Rattle.std.specs.Prelude.{⊤}
 use Rattle.std.specs.List.{list_any}
 
 -- how many numbers there is room for, all those below it, and which of them are in the list

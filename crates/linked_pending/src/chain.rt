@@ -1,10 +1,12 @@
 //! A list of places in two tables of links. Place 0 is the list's own: it stands before the first and behind the last.
 
-ghost use Rattle.std.specs.Prelude.{◌≡◌, ℕ, ◌<◌, ◌≤◌, ◌∷◌, ◌⊎◌, [], false, true, IsOk, OnOk, OnErr, length, max, vec_capacity};
-ghost use Rattle.linked_pending.specs.Listing.{AreApart, has, put_before, without, behind_or, before_from};
+ghost use Rattle.std.specs.Prelude.{◌≡◌, ℕ, ◌<◌, ◌≤◌, ◌∷◌, ◌⊎◌, [], false, true, IsOk, OnOk, OnErr};
+ghost use Rattle.std.specs.Prelude.{length, max, vec_capacity};
+ghost use Rattle.linked_pending.specs.Listing.{AreApart, has, put_before, without};
+ghost use Rattle.linked_pending.specs.Listing.{behind_or, before_from};
 ghost use Rattle.linked_pending.specs.Links.{AreInverse, crossed, link};
 
-use crate::fault::NoMemory;
+use answers::NoMemory;
 use std::alloc::Global;
 use std::marker::Model;
 
@@ -24,7 +26,10 @@ impl Model for Chain {
 
     ghost Value = { Listing };
 
-    ghost view = { λ chain. record { room = length chain.nexts.items; items = walk chain.len (link chain.nexts.items) 0 } };
+    ghost view = { λ chain. record {
+      room = length chain.nexts.items;
+      items = walk chain.len (link chain.nexts.items) 0;
+    } };
 
     ghost invariant = { λ chain. IsChain chain.nexts.items chain.prevs.items chain.len };
 }
@@ -127,7 +132,8 @@ pub fn grow(links: &mut Vec<usize>, len: usize, room: usize)
     requires within { len ≤ room }
     requires space { room ≤ vec_capacity links.old }
     ensures room { length links.new.items ≡ room }
-    ensures kept { (place : ℕ) → place < len → link links.new.items place ≡ link links.old.items place }
+    ensures kept { (place : ℕ) → place < len
+        → link links.new.items place ≡ link links.old.items place }
     ensures alone { (place : ℕ) → len ≤ place → place < room → link links.new.items place ≡ place }
 {
     for place in len..room {
@@ -135,7 +141,7 @@ pub fn grow(links: &mut Vec<usize>, len: usize, room: usize)
     }
 }
 
-/// Exchanges what stands behind two places, so that two rings of links become one, or one becomes two.
+// Exchanges what stands behind two places, so that two rings of links become one, or one becomes two.
 fn cross(nexts: &mut Vec<usize>, prevs: &mut Vec<usize>, place: usize, other: usize)
     requires links { AreInverse nexts.old.items prevs.old.items }
     requires place { place < length nexts.old.items }

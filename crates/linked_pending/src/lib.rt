@@ -2,17 +2,16 @@
 //! nodes, those that wait and those that are frozen.
 //!
 //! Each call takes constant time, and after `reserve` none takes memory (`reserve` itself takes time by what it adds).
-//! The crate stands on std, and on thiserror for its one error. It keeps numbers: what a node or a group means is its
-//! caller's, and no value is kept beside a node.
+//! The crate stands on std, and on `answers` for want of memory, its one failure. It keeps numbers: what a node or a
+//! group means is its caller's, and no value is kept beside a node.
 #![tactic(auto)]
 
 mod chain;
-mod fault;
 mod order;
 mod pending;
 #[cfg(test)]
 mod tests;
 
-pub use fault::NoMemory;
+pub use answers::NoMemory;
 pub use order::Order;
 pub use pending::{Pending, Place};

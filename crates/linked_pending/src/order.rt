@@ -1,12 +1,13 @@
 //! A list of nodes, each at most once.
 
-ghost use Rattle.std.specs.Prelude.{◌≡◌, ◌↔◌, ℕ, ◌<◌, ◌≤◌, ◌^◌, ◌∷◌, ◌++◌, [], nat_eq, All, Contains, IsNone, IsErr, IsOk, OnErr, OnOk, max, slice_get};
+ghost use Rattle.std.specs.Prelude.{◌≡◌, ◌↔◌, ℕ, ◌<◌, ◌≤◌, ◌^◌, ◌∷◌, ◌++◌, [], nat_eq, All};
+ghost use Rattle.std.specs.Prelude.{Contains, IsNone, IsErr, IsOk, OnErr, OnOk, max, slice_get};
 ghost use Rattle.std.specs.List.{IsDistinct};
 ghost use Rattle.linked_pending.specs.Listing.{without, next_in};
 ghost use Rattle.linked_pending.specs.Order.{node_at};
 
 use crate::chain::Chain;
-use crate::fault::NoMemory;
+use answers::NoMemory;
 use std::alloc::Global;
 use std::marker::Model;
 
@@ -28,7 +29,10 @@ impl Model for Order {
 
     ghost Value = { Listing };
 
-    ghost view = { λ order. record { room = order.chain.room - 1; items = nodes_at order.chain.items } };
+    ghost view = { λ order. record {
+      room = order.chain.room - 1;
+      items = nodes_at order.chain.items;
+    } };
 
     ghost invariant = { λ order. IsOrder order.chain };
 }
@@ -43,14 +47,20 @@ impl Order {
         }
     }
 
+    /// How many nodes there is room for. Its clauses tell besides all that holds of each list.
+    pub fn room(&self) -> usize
+        ensures room { result ≡ self.now.room }
+        ensures countable { self.now.room < usize.MAX }
+        ensures distinct { IsDistinct nat_eq self.now.items }
+        ensures within { All (λ node. node < self.now.room) self.now.items }
+    {
+        self.chain.room().saturating_sub(1)
+    }
+
     /// The first node of the list, or None where the list is empty.
     pub fn first(&self) -> Option<usize>
         ensures first { result ≡ slice_get self.now.items 0 }
         ensures none { IsNone result ↔ (self.now.items ≡ []) }
-
-        // What holds of each list.
-        ensures distinct { IsDistinct nat_eq self.now.items }
-        ensures within { All (λ node. node < self.now.room) self.now.items }
     {
         if self.room() == 0 {
             return None;
@@ -103,18 +113,9 @@ impl Order {
             self.chain.remove(node + 1);
         }
     }
-
-    /// How many nodes there is room for.
-    fn room(&self) -> usize
-        ensures room { result ≡ self.now.room }
-        ensures distinct { IsDistinct nat_eq self.now.items }
-        ensures within { All (λ node. node < self.now.room) self.now.items }
-    {
-        self.chain.room().saturating_sub(1)
-    }
 }
 
-/// The node that is kept at a place.
+// The node that is kept at a place.
 fn node_of(place: usize) -> Option<usize>
     ensures { result ≡ node_at place }
 {

@@ -1,19 +1,20 @@
 //! Groups of nodes that wait, and groups of nodes that are frozen.
 
-ghost use Rattle.std.specs.Prelude.{◌≡◌, ◌↔◌, ℕ, ◌<◌, ◌≤◌, ◌+◌, ◌*◌, ◌^◌, [], false, None, Some, IfSome, IsNone, IsErr, IsOk, OnErr, OnOk, length, max};
+ghost use Rattle.std.specs.Prelude.{◌≡◌, ◌↔◌, ℕ, ◌<◌, ◌≤◌, ◌+◌, ◌*◌, ◌^◌, [], false, None, Some};
+ghost use Rattle.std.specs.Prelude.{IfSome, IsNone, IsErr, IsOk, OnErr, OnOk, length, max};
 ghost use Rattle.linked_pending.specs.Links.{link};
 ghost use Rattle.linked_pending.specs.Group.{with_node, without_node, group_of, front_of};
 ghost use Rattle.linked_pending.specs.Layout.{has_node, opened, parse};
 ghost use Rattle.linked_pending.specs.Pending.{IsQueue, IsOrderly};
 
 use crate::chain::{Chain, grow};
-use crate::fault::NoMemory;
+use answers::NoMemory;
 use std::alloc::Global;
 use std::marker::Model;
 use std::mem;
 
-/// The greatest room: a node and a group have a place each, and with the chain's own there are as many places as a usize
-/// can count.
+// The greatest room: a node and a group have a place each, and with the chain's own there are as many places as a usize
+// can count.
 const MOST: usize = usize::MAX / 2;
 
 /// Where a node stands: in which group, and which node it is.
@@ -26,13 +27,13 @@ pub struct Place {
 }
 
 /// Two lists of groups, one of groups that wait and one of groups that are frozen. A group is a number with the list of
-/// its nodes; an empty group is in neither list, but one number may name a group in each. A node is a number, and stands
-/// at most once in the two lists. The lists have a room: their nodes and groups are numbers below it.
+/// its nodes; an empty group is in neither list, but one number may name a group in each. A node is a number, and
+/// stands at most once in the two lists. The lists have a room: their nodes and groups are numbers below it.
 ///
 /// # Order
 ///
-/// The groups stand in the order in which they began to wait, and the nodes of a group in the order in which they joined.
-/// `freeze` keeps both orders.
+/// The groups stand in the order in which they began to wait, and the nodes of a group in the order in which they
+/// joined. `freeze` keeps both orders.
 #[derive(Drop)]
 pub struct Pending {
     waiting: Chain,
@@ -47,7 +48,11 @@ impl Model for Pending {
 
     ghost Value = { Queues };
 
-    ghost view = { λ lists. record { room = length lists.groups.items; waiting = parse lists.waiting.items; frozen = parse lists.frozen.items } };
+    ghost view = { λ lists. record {
+      room = length lists.groups.items;
+      waiting = parse lists.waiting.items;
+      frozen = parse lists.frozen.items;
+    } };
 
     ghost invariant = { λ lists. AreQueues lists.groups.items lists.waiting lists.frozen };
 }
@@ -64,14 +69,22 @@ impl Pending {
         }
     }
 
+    /// How many nodes and how many groups there is room for. Its clauses tell besides all that holds of each such pair
+    /// of lists.
+    pub fn room(&self) -> usize
+        ensures room { result ≡ self.now.room }
+        ensures countable { self.now.room < 2 ^ 63 }
+        ensures orderly { IsOrderly self.now }
+    {
+        self.groups.len()
+    }
+
     /// The first node of the first frozen group, or None where nothing is frozen.
     pub fn front(&self) -> Option<Place>
         ensures first { result ≡ front_of self.now.frozen }
         ensures none { IsNone result ↔ (self.now.frozen ≡ []) }
-        ensures member { IfSome result (λ place. group_of place.node self.now.frozen ≡ Some place.group) }
-
-        // What holds of each pair of lists.
-        ensures orderly { IsOrderly self.now }
+        ensures member { IfSome result (λ place.
+            group_of place.node self.now.frozen ≡ Some place.group) }
     {
         if self.frozen.room() == 0 {
             return None;
@@ -101,7 +114,9 @@ impl Pending {
     /// Makes room for the nodes below `nodes` and the groups below `groups`; the room is the greater of the two. Where
     /// it fails the lists are as before; it fails at 2^63 and more, as each node and each group has a place of its own.
     pub fn reserve(&mut self, nodes: usize, groups: usize) -> Result<(), NoMemory>
-        ensures ok { OnOk result (self.new ≡ record self.old { room = max self.old.room (max nodes groups) }) }
+        ensures ok { OnOk result (self.new ≡ record self.old {
+          room = max self.old.room (max nodes groups);
+        }) }
         ensures err { OnErr result (self.new ≡ self.old) }
         ensures enough { max nodes groups ≤ self.old.room → IsOk result }
         ensures uncountable { 2 ^ 63 ≤ max nodes groups → IsErr result }
@@ -135,13 +150,18 @@ impl Pending {
     /// Takes a node out of its group, whether that waits or is frozen, and the group out of its list where the node was
     /// its last. A node that is in no group changes nothing.
     pub fn leave(&mut self, node: usize)
-        ensures left { self.new ≡ record self.old { waiting = without_node node self.old.waiting; frozen = without_node node self.old.frozen } }
+        ensures left { self.new ≡ record self.old {
+          waiting = without_node node self.old.waiting;
+          frozen = without_node node self.old.frozen;
+        } }
         ensures gone_waiting { group_of node self.new.waiting ≡ None }
         ensures gone_frozen { group_of node self.new.frozen ≡ None }
 
         // Where the node isn't in a list, that list stays.
-        ensures not_waiting { group_of node self.old.waiting ≡ None → self.new.waiting ≡ self.old.waiting }
-        ensures not_frozen { group_of node self.old.frozen ≡ None → self.new.frozen ≡ self.old.frozen }
+        ensures not_waiting { group_of node self.old.waiting ≡ None
+            → self.new.waiting ≡ self.old.waiting }
+        ensures not_frozen { group_of node self.old.frozen ≡ None
+            → self.new.frozen ≡ self.old.frozen }
     {
         if node < self.groups.len() {
             take_out(&mut self.waiting, &self.groups, node);
@@ -158,7 +178,7 @@ impl Pending {
     }
 }
 
-/// Puts a node that isn't in the chain at the end of the group that the table gives it.
+// Puts a node that isn't in the chain at the end of the group that the table gives it.
 fn put(chain: &mut Chain, groups: &[usize], node: usize)
     requires queue { IsQueue groups.now chain.old }
     requires fits { 2 * length groups.now < 2 ^ 64 }
@@ -166,14 +186,15 @@ fn put(chain: &mut Chain, groups: &[usize], node: usize)
     requires group { link groups.now node < length groups.now }
     requires absent { has_node node (parse chain.old.items) ≡ false }
     ensures queue { IsQueue groups.now chain.new }
-    ensures items { parse chain.new.items ≡ with_node (link groups.now node) node (parse chain.old.items) }
+    ensures items { parse chain.new.items
+        ≡ with_node (link groups.now node) node (parse chain.old.items) }
 {
     let end = 2 * groups[node] + 2;
     open_group(chain, end);
     chain.insert_before(end, 2 * node + 1);
 }
 
-/// Puts a group's end at the chain's end, where it isn't in the chain.
+// Puts a group's end at the chain's end, where it isn't in the chain.
 fn open_group(chain: &mut Chain, end: usize)
     requires item { 0 < end }
     requires room { end < chain.old.room }
@@ -184,7 +205,7 @@ fn open_group(chain: &mut Chain, end: usize)
     }
 }
 
-/// Takes a node out of the chain, where it is in it, and its group's end where it was the last.
+// Takes a node out of the chain, where it is in it, and its group's end where it was the last.
 fn take_out(chain: &mut Chain, groups: &[usize], node: usize)
     requires queue { IsQueue groups.now chain.old }
     requires fits { 2 * length groups.now < 2 ^ 64 }

@@ -7,12 +7,12 @@ use std::alloc::{AllocError, Global};
 use std::mem;
 use std::test::*;
 
-/// How many nodes the random steps move.
+// How many nodes the random steps move.
 const NODES: usize = 64;
-/// Among how many groups they move them.
+// Among how many groups they move them.
 const GROUPS: usize = 16;
 
-/// A step that was taken.
+// A step that was taken.
 #[derive(Clone, Copy, Debug)]
 enum Step {
     Move(usize, usize),
@@ -20,7 +20,7 @@ enum Step {
     Freeze,
 }
 
-/// Two lists, and a generator of random numbers that always gives the same ones.
+// Two lists, and a generator of random numbers that always gives the same ones.
 #[derive(Drop)]
 struct Drill {
     pending: Pending,
@@ -35,7 +35,7 @@ impl Drill {
         Ok(Drill { pending, seed: 1 })
     }
 
-    /// A number below the bound.
+    // A number below the bound.
     fn below(&mut self, bound: usize) -> usize
         requires { 0 < bound }
         ensures { result < bound }
@@ -47,7 +47,7 @@ impl Drill {
         (self.seed >> 33) as usize % bound
     }
 
-    /// Chooses a step, and takes it.
+    // Chooses a step, and takes it.
     fn step(&mut self) -> Step {
         let group = self.below(GROUPS);
         let node = self.below(NODES);
@@ -65,7 +65,7 @@ impl Drill {
         }
     }
 
-    /// Takes the front out, or freezes what waits where there is none.
+    // Takes the front out, or freezes what waits where there is none.
     fn send(&mut self) -> Step {
         match self.pending.front() {
             Some(place) => {
@@ -86,7 +86,7 @@ struct PlainGroup {
     nodes: Vec<usize>,
 }
 
-/// The same two lists, as lists of lists that are searched and copied.
+// The same two lists, as lists of lists that are searched and copied.
 #[derive(Drop)]
 struct Plain {
     waiting: Vec<PlainGroup>,
@@ -189,6 +189,19 @@ fn a_million_random_steps_keep_to_plain_lists(rt: HostRuntime) -> Result<(), Fai
         drill.send();
     }
     assert_eq!(rt; drill.pending.front(), None, "no node stood twice");
+    Ok(())
+}
+
+#[test]
+fn room_is_found_for_three_nodes_and_for_a_hundred_thousand(rt: HostRuntime) -> Result<(), Fail> {
+    let mut order = Order::new(rt.alloc());
+    let mut pending = Pending::new(rt.alloc());
+    order.reserve(3)?;
+    pending.reserve(3, 2)?;
+    assert_eq!(rt; (order.room(), pending.room()), (3, 3));
+    order.reserve(100_000)?;
+    pending.reserve(1_000, 100_000)?;
+    assert_eq!(rt; (order.room(), pending.room()), (100_000, 100_000));
     Ok(())
 }
 

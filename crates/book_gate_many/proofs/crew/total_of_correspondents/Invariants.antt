@@ -1,5 +1,8 @@
 use Rattle.book_gate_many.proofs.crew.total_of_correspondents.Given as goal
 
--- The gate at hand
-abbrev pub ghosts-correspond_beside : goal.ghosts-correspond_beside
-ghosts-correspond_beside g a = record { gate = a.gate.now }
+-- The gate at hand, and the pass that writes the letters
+abbrev pub ghosts-correspond_beside-N-GateName : goal.ghosts-correspond_beside-N-GateName
+ghosts-correspond_beside-N-GateName g a = record { gate = a.gate.now; writer = a.one.name }
+
+abbrev pub ghosts-correspond_beside-M-GateName : goal.ghosts-correspond_beside-M-GateName
+ghosts-correspond_beside-M-GateName g a = record { gate = a.gate.now; writer = a.two.name }

@@ -4,7 +4,8 @@ use Rattle.linked_pending.proofs.pending.put.Goals as goal
 
 pub insert_before-requires-clause-spot : goal.insert_before-requires-clause-spot
 insert_before-requires-clause-spot c =
-    inr (end_opened _ _ c.requires.queue c.args.node c.requires.node c.requires.absent c.requires.group _ c.open_group.ensures)
+    inr (end_opened _ _ c.requires.queue c.args.node c.requires.node c.requires.absent c.requires.group _
+    c.open_group.ensures)
 
 pub insert_before-requires-clause-absent : goal.insert_before-requires-clause-absent
 insert_before-requires-clause-absent c =
@@ -12,8 +13,10 @@ insert_before-requires-clause-absent c =
 
 pub returns-clause-queue : goal.returns-clause-queue
 returns-clause-queue c =
-    (joined _ _ c.requires.queue c.args.node c.requires.node c.requires.absent c.requires.group _ c.open_group.ensures _ c.insert_before.ensures).queue
+    (joined _ _ c.requires.queue c.args.node c.requires.node c.requires.absent c.requires.group _ c.open_group.ensures _
+    c.insert_before.ensures).queue
 
 pub returns-clause-items : goal.returns-clause-items
 returns-clause-items c =
-    (joined _ _ c.requires.queue c.args.node c.requires.node c.requires.absent c.requires.group _ c.open_group.ensures _ c.insert_before.ensures).items
+    (joined _ _ c.requires.queue c.args.node c.requires.node c.requires.absent c.requires.group _ c.open_group.ensures _
+    c.insert_before.ensures).items

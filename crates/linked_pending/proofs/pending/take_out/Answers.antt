@@ -40,23 +40,29 @@ remove-requires-then-before-eq0-clause-room c =
 pub returns-then-before-eq0-clause-queue : goal.returns-then-before-eq0-clause-queue
 returns-then-before-eq0-clause-queue c =
     let there : has (2 * c.args.node + 1) c.args.chain.now.items ≡ true = grind (arith, common_steps) in
-    let even : before_from 0 (2 * link c.args.groups.now c.args.node + 2) c.remove.new.self.items % 2 ≡ 0 = grind (arith, common_steps) in
-    (left_empty _ _ c.requires.queue c.args.node c.requires.node there _ c.remove.ensures _ even c.remove-then-before-eq0.ensures).queue
+    let even : before_from 0 (2 * link c.args.groups.now c.args.node + 2) c.remove.new.self.items % 2 ≡ 0 =
+    grind (arith, common_steps) in
+    (left_empty _ _ c.requires.queue c.args.node c.requires.node there _ c.remove.ensures _ even
+    c.remove-then-before-eq0.ensures).queue
 
 pub returns-then-before-eq0-clause-items : goal.returns-then-before-eq0-clause-items
 returns-then-before-eq0-clause-items c =
     let there : has (2 * c.args.node + 1) c.args.chain.now.items ≡ true = grind (arith, common_steps) in
-    let even : before_from 0 (2 * link c.args.groups.now c.args.node + 2) c.remove.new.self.items % 2 ≡ 0 = grind (arith, common_steps) in
-    (left_empty _ _ c.requires.queue c.args.node c.requires.node there _ c.remove.ensures _ even c.remove-then-before-eq0.ensures).items
+    let even : before_from 0 (2 * link c.args.groups.now c.args.node + 2) c.remove.new.self.items % 2 ≡ 0 =
+    grind (arith, common_steps) in
+    (left_empty _ _ c.requires.queue c.args.node c.requires.node there _ c.remove.ensures _ even
+    c.remove-then-before-eq0.ensures).items
 
 pub returns-else-before-eq0-clause-queue : goal.returns-else-before-eq0-clause-queue
 returns-else-before-eq0-clause-queue c =
     let there : has (2 * c.args.node + 1) c.args.chain.now.items ≡ true = grind (arith, common_steps) in
-    let odd : before_from 0 (2 * link c.args.groups.now c.args.node + 2) c.remove.new.self.items % 2 ≡ 0 → ⊥ = grind (arith, common_steps) in
+    let odd : before_from 0 (2 * link c.args.groups.now c.args.node + 2) c.remove.new.self.items % 2 ≡ 0 → ⊥ =
+    grind (arith, common_steps) in
     (left_some _ _ c.requires.queue c.args.node c.requires.node there _ c.remove.ensures odd).queue
 
 pub returns-else-before-eq0-clause-items : goal.returns-else-before-eq0-clause-items
 returns-else-before-eq0-clause-items c =
     let there : has (2 * c.args.node + 1) c.args.chain.now.items ≡ true = grind (arith, common_steps) in
-    let odd : before_from 0 (2 * link c.args.groups.now c.args.node + 2) c.remove.new.self.items % 2 ≡ 0 → ⊥ = grind (arith, common_steps) in
+    let odd : before_from 0 (2 * link c.args.groups.now c.args.node + 2) c.remove.new.self.items % 2 ≡ 0 → ⊥ =
+    grind (arith, common_steps) in
     (left_some _ _ c.requires.queue c.args.node c.requires.node there _ c.remove.ensures odd).items

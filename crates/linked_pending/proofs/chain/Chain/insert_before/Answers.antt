@@ -9,7 +9,8 @@ use Rattle.linked_pending.proofs.chain.Chain.insert_before.Goals as goal
 pub overflow_add-self : goal.overflow_add-self
 overflow_add-self c =
     let room : c.args.place < length c.self.inside.nexts.items = search rules in
-    let short : c.self.inside.len < length c.self.inside.nexts.items = len_within _ _ _ c.self.invariant (omega arith) in
+    let short : c.self.inside.len < length c.self.inside.nexts.items =
+    len_within _ _ _ c.self.invariant (omega arith) in
     omega arith
 
 pub invariant_of-self : goal.invariant_of-self
@@ -19,7 +20,8 @@ invariant_of-self c =
     let items = sym (ap (λ (listing : Listing). listing.items) c.self.view_is) in
     let absent = subst (λ (places : List ℕ). has c.args.place places ≡ false) items c.requires.absent in
     let spot = subst (λ (places : List ℕ). (c.args.spot ≡ 0) ⊎ (has c.args.spot places ≡ true)) items c.requires.spot in
-    (seen_put _ _ _ _ _ _ _ _ c.self.invariant c.requires.item room absent spot before c.cross.ensures.crossed c.cross.ensures.links).chain
+    (seen_put _ _ _ _ _ _ _ _ c.self.invariant c.requires.item room absent spot before c.cross.ensures.crossed
+    c.cross.ensures.links).chain
 
 pub returns : goal.returns
 returns c =
@@ -30,5 +32,6 @@ returns c =
     let spot = subst (λ (places : List ℕ). (c.args.spot ≡ 0) ⊎ (has c.args.spot places ≡ true)) items c.requires.spot in
     let room_is : length c.cross.new.nexts.items ≡ c.args.self.now.room = grind (arith, common_steps) in
     ap₂ listing room_is
-    ((seen_put _ _ _ _ _ _ _ _ c.self.invariant c.requires.item room absent spot before c.cross.ensures.crossed c.cross.ensures.links).items_are
+    ((seen_put _ _ _ _ _ _ _ _ c.self.invariant c.requires.item room absent spot before c.cross.ensures.crossed
+    c.cross.ensures.links).items_are
     ∙ ap (λ (listing : Listing). put_before c.args.spot c.args.place listing.items) c.self.view_is)

@@ -20,7 +20,8 @@ returns-in_ok-reserve-2-clause-ok c =
     let len_prev : c.len-len.result ≡ length c.self.inside.prevs.items = len ∙ sym c.self.invariant.links.same_length in
     let own = c.grow.ensures in
     let back = c.grow-then-len-room.ensures in
-    let room_before : length c.self.inside.nexts.items ≡ c.args.self.now.room = ap (λ (listing : Listing). listing.room) c.self.view_is in
+    let room_before : length c.self.inside.nexts.items ≡ c.args.self.now.room =
+    ap (λ (listing : Listing). listing.room) c.self.view_is in
     let room_is : length c.grow.new.links.items ≡ max c.args.self.now.room c.args.room = own.room ∙ omega arith in
     ap₂ listing room_is
     ((seen_grown _ _ _ _ c.args.room c.self.inside.len c.self.invariant (omega arith)

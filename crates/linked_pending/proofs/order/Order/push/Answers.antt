@@ -14,11 +14,13 @@ insert_before-requires-clause-absent c =
 pub invariant_of-self : goal.invariant_of-self
 invariant_of-self c =
     let no_root : has 0 (put_before 0 (c.args.node + 1) c.self.inside.chain.items) ≡ false =
-    has-put_before 0 0 (c.args.node + 1) c.self.inside.chain.items ∙ grind (arith, common_steps, c.self.invariant.no_root) in
+    has-put_before 0 0 (c.args.node + 1) c.self.inside.chain.items
+    ∙ grind (arith, common_steps, c.self.invariant.no_root) in
     subst IsOrder (sym c.insert_before.ensures) (record { no_root = no_root; counted = c.self.invariant.counted })
 
 pub returns : goal.returns
 returns c =
     ap (λ (chain : Listing). listing (chain.room - 1) (nodes_at chain.items)) c.insert_before.ensures
     ∙ ap₂ listing (ap (λ (order : Listing). order.room) c.self.view_is)
-    (nodes_at-put_before c.args.node _ c.self.invariant.no_root ∙ ap (λ (order : Listing). order.items ++ c.args.node ∷ []) c.self.view_is)
+    (nodes_at-put_before c.args.node _ c.self.invariant.no_root
+    ∙ ap (λ (order : Listing). order.items ++ c.args.node ∷ []) c.self.view_is)

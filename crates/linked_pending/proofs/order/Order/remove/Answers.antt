@@ -16,16 +16,19 @@ pub returns-then-node-room-clause-removed : goal.returns-then-node-room-clause-r
 returns-then-node-room-clause-removed c =
     ap (λ (chain : Listing). listing (chain.room - 1) (nodes_at chain.items)) c.remove.ensures
     ∙ ap₂ listing (ap (λ (order : Listing). order.room) c.self.view_is)
-    (nodes_at-without c.args.node _ c.self.invariant.no_root ∙ ap (λ (order : Listing). without c.args.node order.items) c.self.view_is)
+    (nodes_at-without c.args.node _ c.self.invariant.no_root ∙ ap (λ (order : Listing). without c.args.node order.items)
+    c.self.view_is)
 
 pub returns-then-node-room-clause-absent : goal.returns-then-node-room-clause-absent
 returns-then-node-room-clause-absent c = λ none.
     ap (λ (chain : Listing). listing (chain.room - 1) (nodes_at chain.items)) c.remove.ensures
     ∙ ap₂ listing (ap (λ (order : Listing). order.room) c.self.view_is)
-    (nodes_at-without c.args.node _ c.self.invariant.no_root ∙ ap (λ (order : Listing). without c.args.node order.items) c.self.view_is
+    (nodes_at-without c.args.node _ c.self.invariant.no_root ∙ ap (λ (order : Listing). without c.args.node order.items)
+    c.self.view_is
     ∙ without_absent _ _ (absent_from_not _ _ none))
 
 pub returns-else-node-room-clause-removed : goal.returns-else-node-room-clause-removed
 returns-else-node-room-clause-removed c =
-    let absent : has c.args.node c.args.self.now.items ≡ false = absent_above c.args.node _ _ (grind (arith, common_steps)) c.room.ensures.within in
+    let absent : has c.args.node c.args.self.now.items ≡ false =
+    absent_above c.args.node _ _ (grind (arith, common_steps)) c.room.ensures.within in
     ap (listing c.args.self.now.room) (sym (without_absent _ _ absent))

@@ -16,5 +16,7 @@ invariant_of-self-then-len-room c =
     let room_frozen = ap (λ (listing : Listing). listing.room) frozen in
     let space_waiting : 2 * c.max-room.result + 1 ≤ c.reserve.new.self.room = omega (arith, room_waiting) in
     let space_frozen : 2 * c.max-room.result + 1 ≤ c.reserve-then-len-room.new.self.room = omega (arith, room_frozen) in
-    queues_grown _ _ _ _ _ _ c.max-room.result c.self.invariant (ap (λ (listing : Listing). listing.items) waiting) (ap (λ (listing : Listing). listing.items) frozen) grows fits space_waiting space_frozen
-    (grown_from _ _ _ _ c.max-room.result c.in_ok-reserve-3.ensures.items len c.grow.ensures.room c.grow.ensures.kept c.grow.ensures.alone)
+    queues_grown _ _ _ _ _ _ c.max-room.result c.self.invariant (ap (λ (listing : Listing). listing.items) waiting)
+    (ap (λ (listing : Listing). listing.items) frozen) grows fits space_waiting space_frozen
+    (grown_from _ _ _ _ c.max-room.result c.in_ok-reserve-3.ensures.items len c.grow.ensures.room c.grow.ensures.kept
+    c.grow.ensures.alone)

@@ -1,5 +1,0 @@
-use Rattle.book_gate.specs.Calls.{IsLater}
-use Rattle.book_gate_many.proofs.crew.add.Given as goal
-
-abbrev pub invariant-loop : goal.invariant-loop
-invariant-loop g l = IsLater l.initial.pass l.pass
