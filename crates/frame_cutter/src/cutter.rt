@@ -9,14 +9,14 @@ use answers::NoMemory;
 use std::alloc::Global;
 use std::marker::Model;
 
-/// Which messages may be long.
+// Which messages may be long.
 #[derive(Clone, Copy, Debug)]
 enum Wide {
-    /// None.
+    // None.
     Never,
-    /// Those behind the one in front.
+    // Those behind the one in front.
     Behind,
-    /// All.
+    // All.
     Now,
 }
 

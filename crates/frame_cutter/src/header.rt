@@ -18,13 +18,13 @@ use crate::kinds::{HEADER_LEN, Lengths, lengths_of};
 use crate::next::Next;
 use crate::refusal::Refusal;
 
-/// Where the length of the whole message stands in its header (RFC 4271, section 4.1).
+// Where the length of the whole message stands in its header (RFC 4271, section 4.1).
 const LEN_START: usize = 16;
 
-/// Where its type stands.
+// Where its type stands.
 const KIND_AT: usize = 18;
 
-/// The byte of which a marker is made (RFC 4271, section 4.1).
+// The byte of which a marker is made (RFC 4271, section 4.1).
 const ONES: u8 = 0xFF;
 
 /// What stands at the front of bytes, where messages have at most `most` bytes.

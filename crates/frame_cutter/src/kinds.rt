@@ -22,16 +22,16 @@ pub const MAX_LEN: usize = 4_096;
 /// The greatest length of a message where both sides agreed to long ones (RFC 8654, section 4).
 pub const MAX_LONG_LEN: usize = 65_535;
 
-/// The least length of OPEN (RFC 4271, section 4.2).
+// The least length of OPEN (RFC 4271, section 4.2).
 const MIN_OPEN: usize = 29;
 
-/// The least length of UPDATE (RFC 4271, section 4.3).
+// The least length of UPDATE (RFC 4271, section 4.3).
 const MIN_UPDATE: usize = 23;
 
-/// The least length of NOTIFICATION (RFC 4271, section 4.5).
+// The least length of NOTIFICATION (RFC 4271, section 4.5).
 const MIN_NOTIFICATION: usize = 21;
 
-/// The one length of ROUTE-REFRESH: a header, and a family in four bytes (RFC 2918, section 3).
+// The one length of ROUTE-REFRESH: a header, and a family in four bytes (RFC 2918, section 3).
 const ROUTE_REFRESH_LEN: usize = 23;
 
 /// The least and the greatest length of some messages.

@@ -8,8 +8,8 @@ use std::marker::Model;
 /// How many bytes wait at most: as many as the longest message has (RFC 8654, section 4).
 pub const ROOM: usize = 65_535;
 
-/// How many cells they have: twice as many. Bytes that wait are moved to the front only where more bytes find no cell
-/// behind them. Then over half of the cells are free in front, so that no more bytes are moved than came before.
+// How many cells they have: twice as many. Bytes that wait are moved to the front only where more bytes find no cell
+// behind them. Then over half of the cells are free in front, so that no more bytes are moved than came before.
 const CELLS: usize = 131_070;
 
 /// Bytes in order, at most 65,535, which come at the end and go at the front.

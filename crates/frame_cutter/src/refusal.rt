@@ -4,7 +4,7 @@ ghost use Rattle.frame_cutter.specs.Refusals.{refused};
 
 use arrayvec::ArrayVec;
 
-/// How many bytes of data a refusal has at most.
+// How many bytes of data a refusal has at most.
 const DETAIL_MAX: usize = 8;
 
 /// Why a message is refused: what the NOTIFICATION that answers it says (RFC 4271, section 4.5).

@@ -1,7 +1,7 @@
 //! A helper that ends at once and is started again.
 use crate::Window;
 
-/// Five starts, and whether a sixth is allowed at a moment.
+// Five starts, and whether a sixth is allowed at a moment.
 const SIXTH: [([u64; 5], u64, bool); 6] = [
     ([0, 1, 2, 3, 4], 59_999, false),
     ([0, 1, 2, 3, 4], 60_000, true),

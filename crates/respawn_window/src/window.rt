@@ -5,10 +5,10 @@ ghost use Rattle.std.specs.Bool.{OnFalse};
 use arrayvec::ArrayVec;
 use std::marker::Model;
 
-/// How many starts are allowed within the span.
+// How many starts are allowed within the span.
 const MAX_STARTS: usize = 5;
 
-/// The span, in milliseconds.
+// The span, in milliseconds.
 const SPAN: u64 = 60_000;
 
 /// Allows starts, at most five in any 60,000 milliseconds.

@@ -1,7 +1,7 @@
 //! A stream of messages of all types, which comes in pieces.
 use super::*;
 
-/// Types and whole lengths of messages, over and over.
+// Types and whole lengths of messages, over and over.
 const TABLE: [(u8, u16); 10] = [
     (OPEN, 29),
     (KEEPALIVE, 19),
@@ -15,15 +15,15 @@ const TABLE: [(u8, u16); 10] = [
     (OPEN, 4096),
 ];
 
-/// How many messages the stream has.
+// How many messages the stream has.
 const MESSAGES: usize = 300;
 
-/// In which pieces a stream comes.
+// In which pieces a stream comes.
 #[derive(Clone, Copy, Debug)]
 enum Cut {
-    /// Of so many bytes.
+    // Of so many bytes.
     Every(usize),
-    /// Each a message.
+    // Each a message.
     AtMessages,
 }
 
