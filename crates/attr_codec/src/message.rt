@@ -1,8 +1,10 @@
 //! The buffer that a message is written into.
-ghost use Rattle.std.specs.Prelude.{ℕ, ◌≡◌, ◌+◌, ◌≤◌, List, [], ◌++◌, length, take, drop};
+ghost use Rattle.std.specs.Prelude.{ℕ, ◌≡◌, ◌+◌, ◌≤◌, List, [], ◌++◌, length, take, drop, IfOk};
 ghost use Rattle.std.specs.Int.{w16, to_be_bytes};
 
+use answers::NoMemory;
 use arrayvec::ArrayVec;
+use std::alloc::Global;
 use std::marker::Model;
 
 /// The greatest length of a message (RFC 8654, section 4).
@@ -13,11 +15,11 @@ const LEN_START: usize = 16;
 
 const LEN_END: usize = 18;
 
-/// A buffer for one message, with a room of its own: how many bytes may stand in it, at most 65,535. It takes 64 KB
-/// wherever it lies, so lend it.
+/// A buffer for one message, with a room of its own: how many bytes may stand in it, at most 65,535. Its 64 KB lie on
+/// the heap, so that it is moved as a pointer.
 #[derive(Drop)]
 pub struct Message {
-    bytes: ArrayVec<u8, MAX_MESSAGE>,
+    bytes: Box<ArrayVec<u8, MAX_MESSAGE>>,
     room: usize,
 }
 
@@ -27,23 +29,23 @@ impl Model for Message {
 
     ghost Value = { Buffer };
 
-    ghost view = { λ m. record { bytes = m.bytes.items; room = m.room } };
+    ghost view = { λ m. record { bytes = m.bytes.value.items; room = m.room } };
 
-    ghost invariant = { λ m. (length m.bytes.items ≤ m.room) × (m.room ≤ 65535) };
+    ghost invariant = { λ m. (length m.bytes.value.items ≤ m.room) × (m.room ≤ 65535) };
 }
 
 impl Message {
     ghost use Rattle.attr_codec.specs.Buffer.{Buffer, HasRoom, Appended};
 
     /// An empty buffer with room for so many bytes.
-    pub fn new(room: usize) -> Message
+    pub fn new(alloc: Global, room: usize) -> Result<Message, NoMemory>
         requires { room ≤ 65535 }
-        ensures { result ≡ record { bytes = []; room = room } }
+        ensures { IfOk result (λ message. message ≡ record { bytes = []; room = room }) }
     {
-        Message {
-            bytes: ArrayVec::new(),
+        Ok(Message {
+            bytes: Box::new(alloc, ArrayVec::new())?,
             room,
-        }
+        })
     }
 
     /// The bytes so far.

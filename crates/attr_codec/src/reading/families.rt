@@ -8,8 +8,9 @@
 //! ```
 //! An MP_UNREACH_NLRI has AFI, SAFI and prefixes alone.
 ghost use Rattle.std.specs.Prelude.{◌≡◌, option_and_then};
+ghost use Rattle.answers.specs.Gives.{Gives};
 ghost use Rattle.update_grammar.specs.ReadFamilies.{family_of_numbers, agreed, hop_in, keys_value, reached_in, reach_in, unreach_in};
-ghost use Rattle.attr_codec.specs.Faults.{ValueGives};
+ghost use Rattle.attr_codec.specs.Faults.{value_blame};
 
 use super::numbers::{u32_from, u128_from};
 use super::prefixes::read_keys;
@@ -22,7 +23,7 @@ use update_grammar::Reached;
 /// An MP_REACH_NLRI, or None where its family isn't the session's.
 #[tactic(auto, unfolding(update_grammar::specs::ReadFamilies::reach_in))]
 pub fn reach_in(alloc: Global, value: &[u8], caps: &Caps) -> Result<Option<Reached>, ValueFault>
-    ensures { ValueGives (λ reached. reached) result (reach_in caps.now value.now) }
+    ensures { Gives (λ reached. reached) value_blame result (reach_in caps.now value.now) }
 {
     let [high, low, safi, rest @ ..] = value else {
         return Err(ValueFault::BadLength);
@@ -37,7 +38,7 @@ pub fn reach_in(alloc: Global, value: &[u8], caps: &Caps) -> Result<Option<Reach
 /// An MP_UNREACH_NLRI, or None where its family isn't the session's.
 #[tactic(auto, unfolding(update_grammar::specs::ReadFamilies::unreach_in))]
 pub fn unreach_in(alloc: Global, value: &[u8], caps: &Caps) -> Result<Option<Keys>, ValueFault>
-    ensures { ValueGives (λ keys. keys) result (unreach_in caps.now value.now) }
+    ensures { Gives (λ keys. keys) value_blame result (unreach_in caps.now value.now) }
 {
     let [high, low, safi, rest @ ..] = value else {
         return Err(ValueFault::BadLength);
@@ -57,7 +58,7 @@ fn reached_in(
     family: Family,
     caps: &Caps,
 ) -> Result<Reached, ValueFault>
-    ensures { ValueGives (λ reached. reached) result (reached_in caps.now family bytes.now) }
+    ensures { Gives (λ reached. reached) value_blame result (reached_in caps.now family bytes.now) }
 {
     let [len, rest @ ..] = bytes else {
         return Err(ValueFault::BadLength);
@@ -75,7 +76,7 @@ fn reached_in(
 
 // The keys of a family, as the session writes them.
 fn keys_value(alloc: Global, bytes: &[u8], family: Family, caps: &Caps) -> Result<Keys, ValueFault>
-    ensures { ValueGives (λ keys. keys) result (keys_value caps.now family bytes.now) }
+    ensures { Gives (λ keys. keys) value_blame result (keys_value caps.now family bytes.now) }
 {
     match read_keys(alloc, bytes, family, caps.path(family)) {
         Ok(keys) => Ok(keys),
