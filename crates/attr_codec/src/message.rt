@@ -1,7 +1,8 @@
 //! The buffer that a message is written into.
 ghost use Rattle.std.specs.Prelude.{ℕ, ◌≡◌, ◌+◌, ◌≤◌, List, [], ◌++◌, length, take, drop, IfOk};
-ghost use Rattle.std.specs.Int.{w16, to_be_bytes};
+ghost use Rattle.std.specs.Int.{w16, w32, w128, to_be_bytes};
 
+use crate::numbers::{u16_bytes, u32_bytes, u128_bytes};
 use answers::NoMemory;
 use arrayvec::ArrayVec;
 use std::alloc::Global;
@@ -80,6 +81,30 @@ impl Message {
         let _ = self.bytes.try_extend_from_slice(piece);
     }
 
+    /// Puts a number at the end, in two bytes.
+    pub fn append_u16(&mut self, number: u16)
+        requires { HasRoom self.old 2 }
+        ensures { Appended self.old self.new (to_be_bytes w16 number) }
+    {
+        self.append(&u16_bytes(number));
+    }
+
+    /// Puts a number at the end, in four bytes.
+    pub fn append_u32(&mut self, number: u32)
+        requires { HasRoom self.old 4 }
+        ensures { Appended self.old self.new (to_be_bytes w32 number) }
+    {
+        self.append(&u32_bytes(number));
+    }
+
+    /// Puts a number at the end, in sixteen bytes.
+    pub fn append_u128(&mut self, number: u128)
+        requires { HasRoom self.old 16 }
+        ensures { Appended self.old self.new (to_be_bytes w128 number) }
+    {
+        self.append(&u128_bytes(number));
+    }
+
     /// Writes bytes over those that stand from `start` on.
     pub fn overwrite(&mut self, start: usize, piece: &[u8])
         requires { start + length piece.now ≤ length self.old.bytes }
@@ -112,6 +137,6 @@ impl Message {
     {
         let len = self.bytes.len() as u16;
         let cells = self.bytes.as_mut_slice();
-        cells[LEN_START..LEN_END].copy_from_slice(&len.to_be_bytes());
+        cells[LEN_START..LEN_END].copy_from_slice(&u16_bytes(len));
     }
 }

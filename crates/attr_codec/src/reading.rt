@@ -9,7 +9,6 @@ ghost use Rattle.update_grammar.specs.ReadAttributes.{attrs_in, place_of};
 mod attribute;
 mod codes;
 mod families;
-mod numbers;
 mod path;
 mod prefixes;
 mod raw;

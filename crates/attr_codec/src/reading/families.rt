@@ -12,10 +12,10 @@ ghost use Rattle.answers.specs.Gives.{Gives};
 ghost use Rattle.update_grammar.specs.ReadFamilies.{family_of_numbers, agreed, hop_in, keys_value, reached_in, reach_in, unreach_in};
 ghost use Rattle.attr_codec.specs.Faults.{value_blame};
 
-use super::numbers::{u32_from, u128_from};
 use super::prefixes::read_keys;
 use crate::codes::{AFI_IPV4, AFI_IPV6, IPV6_HOP_LEN, IPV6_HOPS_LEN, NUMBER_LEN, UNICAST};
 use crate::fault::{KeysFault, ValueFault};
+use crate::numbers::{read_u16, read_u32, read_u128};
 use route_values::{Addr, Caps, Family, Keys};
 use std::alloc::Global;
 use update_grammar::Reached;
@@ -25,11 +25,10 @@ use update_grammar::Reached;
 pub fn reach_in(alloc: Global, value: &[u8], caps: &Caps) -> Result<Option<Reached>, ValueFault>
     ensures { Gives (λ reached. reached) value_blame result (reach_in caps.now value.now) }
 {
-    let [high, low, safi, rest @ ..] = value else {
+    let [_, _, safi, rest @ ..] = value else {
         return Err(ValueFault::BadLength);
     };
-    let afi = u16::from_be_bytes([*high, *low]);
-    let Some(family) = agreed(caps, afi, *safi) else {
+    let Some(family) = agreed(caps, read_u16(value), *safi) else {
         return Ok(None);
     };
     Ok(Some(reached_in(alloc, rest, family, caps)?))
@@ -40,11 +39,10 @@ pub fn reach_in(alloc: Global, value: &[u8], caps: &Caps) -> Result<Option<Reach
 pub fn unreach_in(alloc: Global, value: &[u8], caps: &Caps) -> Result<Option<Keys>, ValueFault>
     ensures { Gives (λ keys. keys) value_blame result (unreach_in caps.now value.now) }
 {
-    let [high, low, safi, rest @ ..] = value else {
+    let [_, _, safi, rest @ ..] = value else {
         return Err(ValueFault::BadLength);
     };
-    let afi = u16::from_be_bytes([*high, *low]);
-    let Some(family) = agreed(caps, afi, *safi) else {
+    let Some(family) = agreed(caps, read_u16(value), *safi) else {
         return Ok(None);
     };
     Ok(Some(keys_value(alloc, rest, family, caps)?))
@@ -90,9 +88,9 @@ fn hop_in(family: Family, hop: &[u8]) -> Option<Addr>
     ensures { result ≡ hop_in family hop.now }
 {
     match family {
-        Family::Ipv4 if hop.len() == NUMBER_LEN => Some(Addr::V4(u32_from(hop))),
+        Family::Ipv4 if hop.len() == NUMBER_LEN => Some(Addr::V4(read_u32(hop))),
         Family::Ipv6 if hop.len() == IPV6_HOP_LEN || hop.len() == IPV6_HOPS_LEN => {
-            Some(Addr::V6(u128_from(&hop[..IPV6_HOP_LEN])))
+            Some(Addr::V6(read_u128(hop)))
         }
         _ => None,
     }

@@ -16,9 +16,9 @@ ghost use Rattle.update_grammar.specs.Prefixes.{bytes_for, addr_from, SpellsKey}
 ghost use Rattle.update_grammar.specs.ReadPrefixes.{id_at, block_at, key_at, keys_in};
 ghost use Rattle.attr_codec.specs.Faults.{keys_blame, place_of_keys};
 
-use super::numbers::{u32_from, u128_from};
 use crate::codes::{BYTE_BITS, ID_LEN, IPV4_BITS, IPV6_BITS};
 use crate::fault::KeysFault;
+use crate::numbers::{read_u32, u32_from, u128_from};
 use route_values::{Addr, Family, Key, Keys, Prefix};
 use std::alloc::Global;
 
@@ -78,8 +78,7 @@ fn id_at(bytes: &[u8], path: bool) -> Option<(u32, &[u8])>
     if bytes.len() < ID_LEN {
         return None;
     }
-    let (front, rest) = bytes.split_at(ID_LEN);
-    Some((u32_from(front), rest))
+    Some((read_u32(bytes), &bytes[ID_LEN..]))
 }
 
 // The prefix at the front and the bytes behind it.

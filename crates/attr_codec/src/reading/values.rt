@@ -6,9 +6,9 @@ ghost use Rattle.update_grammar.specs.ReadAttributes.{said_as};
 ghost use Rattle.update_grammar.specs.ReadValues.{sized, items_from, number_from, large_from, origin_in, number_in, aggregator_in, numbers_in, exts_in, larges_in};
 ghost use Rattle.attr_codec.specs.Faults.{value_blame};
 
-use super::numbers::u32_from;
 use crate::codes::{AGGREGATOR_LEN, EGP, EXT_LEN, IGP, INCOMPLETE, LARGE_LEN, NUMBER_LEN};
 use crate::fault::ValueFault;
+use crate::numbers::read_u32;
 use answers::NoMemory;
 use route_values::{Aggregator, Exts, Items, Large, Larges, Origin, U32s};
 use std::alloc::Global;
@@ -38,7 +38,7 @@ pub fn number_in(value: &[u8]) -> Result<u32, ValueFault>
     if value.len() != NUMBER_LEN {
         return Err(ValueFault::BadLength);
     }
-    Ok(u32_from(value))
+    Ok(read_u32(value))
 }
 
 /// An ATOMIC_AGGREGATE, which has no bytes (RFC 4271, section 5.1.6).
@@ -60,10 +60,9 @@ pub fn aggregator_in(value: &[u8]) -> Result<Aggregator, ValueFault>
     if value.len() != AGGREGATOR_LEN {
         return Err(ValueFault::BadLength);
     }
-    let (asn, addr) = value.split_at(NUMBER_LEN);
     Ok(Aggregator {
-        asn: u32_from(asn),
-        addr: u32_from(addr),
+        asn: read_u32(value),
+        addr: read_u32(&value[NUMBER_LEN..]),
     })
 }
 
@@ -105,10 +104,10 @@ pub fn numbers_from(alloc: Global, bytes: &[u8]) -> Result<U32s, NoMemory>
     ensures { IfOk result (λ numbers. numbers ≡ items_from 4 number_from bytes.now) }
 {
     let (chunks, _) = bytes.as_chunks::<NUMBER_LEN>();
-    let numbers = chunks
-        .iter()
-        .map(|chunk| u32::from_be_bytes(*chunk))
-        .collect(alloc)?;
+    let mut numbers = Vec::with_capacity(alloc, chunks.len())?;
+    for chunk in chunks {
+        numbers.push(read_u32(chunk))?;
+    }
     Ok(Items::from_vec(numbers))
 }
 
@@ -136,8 +135,8 @@ fn large_from(chunk: &[u8; LARGE_LEN]) -> Large
     ensures { result ≡ large_from chunk.now }
 {
     Large {
-        global: u32_from(&chunk[..NUMBER_LEN]),
-        first: u32_from(&chunk[NUMBER_LEN..2 * NUMBER_LEN]),
-        second: u32_from(&chunk[2 * NUMBER_LEN..]),
+        global: read_u32(chunk),
+        first: read_u32(&chunk[NUMBER_LEN..]),
+        second: read_u32(&chunk[2 * NUMBER_LEN..]),
     }
 }
