@@ -127,17 +127,8 @@ fn a_session_carries_its_families_and_identifiers_where_it_has_them(
 ) -> Result<(), Fail> {
     let prefix = Prefix::new(Addr::V4(0x0A00_0000), 24).ok_or("a prefix")?;
     let key = Key { prefix, id: 7 };
-    let plain = Caps {
-        ipv4: true,
-        ipv6: false,
-        ipv4_path: false,
-        ipv6_path: false,
-        extended: false,
-    };
-    let identified = Caps {
-        ipv4_path: true,
-        ..plain
-    };
+    let plain = Caps::none().with(Family::Ipv4, false);
+    let identified = plain.with(Family::Ipv4, true);
     assert!(rt; !visible(&key, &plain));
     assert!(rt; visible(&key, &identified));
     assert!(rt; visible(&Key { prefix, id: 0 }, &plain));
