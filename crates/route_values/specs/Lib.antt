@@ -1,6 +1,8 @@
 pub mod Addr
+pub mod Octets
 pub mod Prefix
 pub mod Key
+pub mod Order
 pub mod Caps
 pub mod Visible
 pub mod Path

@@ -1,5 +1,6 @@
 use super::*;
 use std::alloc::Global;
+use std::mem::size_of;
 use std::test::Fail;
 
 /// The own AS, and that of a neighbour.
@@ -80,6 +81,11 @@ fn a_prefix_has_no_bit_past_its_length(rt: HostRuntime) {
     for (case, addr, len, wanted) in table {
         assert_eq!(rt; Prefix::new(addr, len).is_some(), wanted, "{case}");
     }
+}
+
+#[test]
+fn a_key_has_24_bytes(rt: HostRuntime) {
+    assert_eq!(rt; size_of::<Key>(), 24);
 }
 
 #[test]
