@@ -3,7 +3,7 @@ use Rattle.std.proofs.Common.{ℕ, ◌≡◌, ◌+◌, ◌-◌, ◌<◌, ◌≤�
 use Rattle.std.specs.Prelude.{option_to_list, IfOk}
 use Rattle.std.specs.Option.{ok_or}
 use Rattle.answers.specs.Gives.{Blames, Gives}
-use Rattle.route_values.specs.declared.caps.Caps.{Caps}
+use Rattle.route_values.specs.Caps.{Caps}
 use Rattle.update_grammar.specs.declared.effect.Attr.{Attr}
 use Rattle.update_grammar.specs.declared.fault.AttrFault.{AttrFault}
 use Rattle.update_grammar.specs.declared.fault.AttrFault.TheVariants as fault

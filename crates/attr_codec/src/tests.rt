@@ -6,9 +6,8 @@ ghost use Rattle.attr_codec.specs.Sizes.{IsShort};
 mod reading;
 
 use super::*;
-use route_values::{
-    Addr, AsPath, Exts, Family, Items, Larges, NoMemory, Origin, Segment, U32s, WireAttrs,
-};
+use answers::NoMemory;
+use route_values::{Addr, AsPath, Family, Items, Origin, Segment, WireAttrs};
 use std::alloc::Global;
 use std::test::Fail;
 
@@ -23,20 +22,8 @@ fn of_path(alloc: Global, count: usize) -> Result<WireAttrs, NoMemory>
         set: false,
         numbers: Items::from_vec(vec![in alloc; 65001; count]?),
     };
-    Ok(WireAttrs {
-        hop: Addr::V4(0xC000_0201),
-        origin: Origin::Igp,
-        path: AsPath::from_segments(vec![in alloc; only]?),
-        med: None,
-        local_pref: None,
-        atomic: false,
-        aggregator: None,
-        communities: U32s::new(alloc),
-        originator: None,
-        clusters: U32s::new(alloc),
-        extended: Exts::new(alloc),
-        large: Larges::new(alloc),
-    })
+    let path = AsPath::from_segments(vec![in alloc; only]?);
+    Ok(WireAttrs::new(alloc, Addr::V4(0xC000_0201), Origin::Igp, path))
 }
 
 // What is written where so many bytes fit, or None where it is refused.
