@@ -26,21 +26,21 @@ pub struct Message {
 
 impl Model for Message {
     ghost use Rattle.std.specs.Prelude.{◌≤◌, length};
-    ghost use Rattle.attr_codec.specs.Buffer.{Buffer};
+    ghost use Rattle.attr_codec.specs.Buffer.{Buffer, max_message};
 
     ghost Value = { Buffer };
 
     ghost view = { λ m. record { bytes = m.bytes.value.items; room = m.room } };
 
-    ghost invariant = { λ m. (length m.bytes.value.items ≤ m.room) × (m.room ≤ 65535) };
+    ghost invariant = { λ m. (length m.bytes.value.items ≤ m.room) × (m.room ≤ max_message) };
 }
 
 impl Message {
-    ghost use Rattle.attr_codec.specs.Buffer.{Buffer, HasRoom, Appended};
+    ghost use Rattle.attr_codec.specs.Buffer.{HasRoom, Appended, max_message};
 
     /// An empty buffer with room for so many bytes.
     pub fn new(alloc: Global, room: usize) -> Result<Message, NoMemory>
-        requires { room ≤ 65535 }
+        requires { room ≤ max_message }
         ensures { IfOk result (λ message. message ≡ record { bytes = []; room = room }) }
     {
         Ok(Message {
@@ -53,7 +53,7 @@ impl Message {
     pub fn bytes(&self) -> &[u8]
         ensures value { result.now ≡ self.now.bytes }
         ensures fits { length result.now ≤ self.now.room }
-        ensures small { self.now.room ≤ 65535 }
+        ensures small { self.now.room ≤ max_message }
     {
         self.bytes.as_slice()
     }
@@ -61,7 +61,7 @@ impl Message {
     /// How many more bytes fit.
     pub fn spare(&self) -> usize
         ensures room { result + length self.now.bytes ≡ self.now.room }
-        ensures small { self.now.room ≤ 65535 }
+        ensures small { self.now.room ≤ max_message }
     {
         self.room - self.bytes.len()
     }

@@ -6,12 +6,13 @@ use Rattle.route_values.specs.declared.addr.Family.{Family}
 use Rattle.route_values.specs.declared.key.Key.{Key}
 use Rattle.route_values.specs.Addr.{bits_of}
 use Rattle.route_values.specs.Prefix.{Block}
+use Rattle.update_grammar.specs.Codes.{id_len}
 use Rattle.update_grammar.specs.Prefixes.{bytes_for, addr_from}
 use Rattle.update_grammar.specs.Steps.{◌>>=◌, each}
 
 -- the identifier at the front and the bytes behind it: four bytes of it, or none and the identifier 0
 abbrev pub id_at : Bool → List ℕ → Option (ℕ × List ℕ)
-id_at true bytes = if nat_lt (length bytes) 4 then None else Some (from_be_bytes w32 bytes, drop 4 bytes)
+id_at true bytes = if nat_lt (length bytes) id_len then None else Some (from_be_bytes w32 bytes, drop id_len bytes)
 id_at false bytes = Some (0, bytes)
 
 -- the prefix at the front and the bytes behind it: its bits are no more than its family has, and all their bytes are there

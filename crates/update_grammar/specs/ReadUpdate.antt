@@ -9,6 +9,7 @@ use Rattle.route_values.specs.declared.attrs.Origin.{Origin}
 use Rattle.route_values.specs.Caps.{Caps}
 use Rattle.route_values.specs.declared.key.Key.{Key}
 use Rattle.route_values.specs.declared.path.Segment.{Segment}
+use Rattle.update_grammar.specs.Codes.{code_origin, code_as_path, code_next_hop}
 use Rattle.update_grammar.specs.declared.effect.Attr.{Attr}
 use Rattle.update_grammar.specs.declared.effect.Effect.{Effect}
 use Rattle.update_grammar.specs.declared.effect.Reached.{Reached}
@@ -40,8 +41,8 @@ field_at bytes =
 -- ORIGIN and AS_PATH, which announcements need
 abbrev pub needed : List Attr → Result (Origin × List Segment) UpdateFault
 needed said = do
-  origin ← ok_or (said_first as_origin said) (fault.MissingAttr 1)
-  path ← ok_or (said_first as_path said) (fault.MissingAttr 2)
+  origin ← ok_or (said_first as_origin said) (fault.MissingAttr code_origin)
+  path ← ok_or (said_first as_path said) (fault.MissingAttr code_as_path)
   Ok (origin, path)
 
 -- announcements of keys with this next hop
@@ -59,7 +60,7 @@ abbrev pub announced_by : List Attr → List Key → Result (List Effect) Update
 announced_by said [] = Ok []
 announced_by said (key ∷ keys) = do
   both ← needed said
-  hop ← ok_or (said_first as_next_hop said) (fault.MissingAttr 3)
+  hop ← ok_or (said_first as_next_hop said) (fault.MissingAttr code_next_hop)
   Ok (here_with said (V4 hop) (key ∷ keys) both)
 
 -- the effects of withdrawn prefixes, attributes and announced prefixes, or the least code that is missing

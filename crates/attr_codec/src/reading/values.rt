@@ -2,6 +2,7 @@
 //! RFC 8092).
 ghost use Rattle.std.specs.Prelude.{◌≡◌, IfOk, Some};
 ghost use Rattle.answers.specs.Gives.{Gives};
+ghost use Rattle.update_grammar.specs.Codes.{number_len, ext_len, large_len};
 ghost use Rattle.update_grammar.specs.ReadAttributes.{said_as};
 ghost use Rattle.update_grammar.specs.ReadValues.{sized, items_from, number_from, large_from, origin_in, number_in, aggregator_in, numbers_in, exts_in, larges_in};
 ghost use Rattle.attr_codec.specs.Faults.{value_blame};
@@ -101,7 +102,7 @@ pub fn larges_in(alloc: Global, value: &[u8]) -> Result<Larges, ValueFault>
 
 /// The numbers of four bytes each that stand in the bytes.
 pub fn numbers_from(alloc: Global, bytes: &[u8]) -> Result<U32s, NoMemory>
-    ensures { IfOk result (λ numbers. numbers ≡ items_from 4 number_from bytes.now) }
+    ensures { IfOk result (λ numbers. numbers ≡ items_from number_len number_from bytes.now) }
 {
     let (chunks, _) = bytes.as_chunks::<NUMBER_LEN>();
     let mut numbers = Vec::with_capacity(alloc, chunks.len())?;
@@ -113,7 +114,7 @@ pub fn numbers_from(alloc: Global, bytes: &[u8]) -> Result<U32s, NoMemory>
 
 // The extended communities of eight bytes each that stand in the bytes.
 fn exts_from(alloc: Global, bytes: &[u8]) -> Result<Exts, NoMemory>
-    ensures { IfOk result (λ exts. exts ≡ items_from 8 (λ ext. ext) bytes.now) }
+    ensures { IfOk result (λ exts. exts ≡ items_from ext_len (λ ext. ext) bytes.now) }
 {
     let (chunks, _) = bytes.as_chunks::<EXT_LEN>();
     Ok(Items::from_vec(Vec::from_slice(alloc, chunks)?))
@@ -121,7 +122,7 @@ fn exts_from(alloc: Global, bytes: &[u8]) -> Result<Exts, NoMemory>
 
 // The large communities of twelve bytes each that stand in the bytes.
 fn larges_from(alloc: Global, bytes: &[u8]) -> Result<Larges, NoMemory>
-    ensures { IfOk result (λ larges. larges ≡ items_from 12 large_from bytes.now) }
+    ensures { IfOk result (λ larges. larges ≡ items_from large_len large_from bytes.now) }
 {
     let (chunks, _) = bytes.as_chunks::<LARGE_LEN>();
     let mut larges = Larges::new(alloc);

@@ -1,5 +1,6 @@
 //! Attributes with a short value, and what stands before a value.
 ghost use Rattle.std.specs.Prelude.{◌≡◌, ◌+◌, ◌^◌, ◌<◌, ◌≤◌, length};
+ghost use Rattle.update_grammar.specs.Codes.{short_max};
 ghost use Rattle.update_grammar.specs.Attributes.{raw_head, raw_text};
 ghost use Rattle.update_grammar.specs.Values.{number_text};
 ghost use Rattle.update_grammar.specs.Written.{flags_for, raw, raw_if};
@@ -28,7 +29,7 @@ pub fn put_head(out: &mut Message, kind: Kind, code: u8, len: usize)
 
 /// Puts an attribute whose value has at most 255 bytes.
 pub fn put_plain(out: &mut Message, kind: Kind, code: u8, value: &[u8])
-    requires small { length value.now ≤ 255 }
+    requires small { length value.now ≤ short_max }
     requires fits { HasRoom out.old (length (raw_text (raw (flags_of kind) code value.now))) }
     ensures { Appended out.old out.new (raw_text (raw (flags_of kind) code value.now)) }
 {
