@@ -17,7 +17,8 @@ part_of s = record { kind = s.kind; numbers = s.numbers }
 
 -- the segment that a part is, if it is one
 abbrev pub as_segment : Part → Option Segment
-as_segment part = if is_segment part then Some (record { set = part.kind == set_type; numbers = part.numbers }) else None
+as_segment part = if is_segment part then Some (record { set = part.kind == set_type; numbers = part.numbers }) else
+    None
 
 -- whether a part is a segment has been answered, and then it was put at the end
 pub record IsTold (answer : Bool) (before : List Segment) (part : Part) (after : List Segment) : Type 0 where

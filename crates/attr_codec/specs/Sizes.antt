@@ -6,7 +6,8 @@ use Rattle.route_values.specs.declared.addr.Family.{Family}
 use Rattle.route_values.specs.declared.addr.Family.TheVariants.{Ipv4, Ipv6}
 use Rattle.route_values.specs.declared.attrs.WireAttrs.{WireAttrs}
 use Rattle.route_values.specs.declared.path.Segment.{Segment}
-use Rattle.update_grammar.specs.Codes.{short_max, number_len, aggregator_len, ext_len, large_len, family_len, ipv4_hop_len, ipv6_hop_len}
+use Rattle.update_grammar.specs.Codes.{short_max, number_len, aggregator_len, ext_len, large_len, family_len}
+use Rattle.update_grammar.specs.Codes.{ipv4_hop_len, ipv6_hop_len}
 
 -- flags, code and a length of one byte
 abbrev pub short_head : ℕ
@@ -69,11 +70,13 @@ unreach_size = short_head + family_len
 -- the attributes whose values have a fixed length, of which ORIGIN has one byte
 abbrev pub fixed_size : Family → WireAttrs → ℕ
 fixed_size family w =
-    short_head + 1 + hop_size family w.hop + size_if (is_some w.med) number_len + size_if (is_some w.local_pref) number_len
+    short_head + 1 + hop_size family w.hop + size_if (is_some w.med) number_len + size_if (is_some w.local_pref)
+    number_len
     + size_if w.atomic 0 + size_if (is_some w.aggregator) aggregator_len + size_if (is_some w.originator) number_len
 
 -- the attributes of an announcement without prefixes of IPv6
 abbrev pub attributes_size : Family → WireAttrs → ℕ
 attributes_size family w =
     fixed_size family w + attr_size (path_size w.path) + list_size (length w.communities) number_len
-    + list_size (length w.clusters) number_len + list_size (length w.extended) ext_len + list_size (length w.large) large_len
+    + list_size (length w.clusters) number_len + list_size (length w.extended) ext_len + list_size (length w.large)
+    large_len

@@ -108,7 +108,8 @@ impl Message {
     /// Writes bytes over those that stand from `start` on.
     pub fn overwrite(&mut self, start: usize, piece: &[u8])
         requires { start + length piece.now ≤ length self.old.bytes }
-        ensures bytes { self.new.bytes ≡ take start self.old.bytes ++ (piece.now ++ drop (start + length piece.now) self.old.bytes) }
+        ensures bytes { self.new.bytes ≡ take start self.old.bytes
+            ++ (piece.now ++ drop (start + length piece.now) self.old.bytes) }
         ensures room { self.new.room ≡ self.old.room }
         ensures len { length self.new.bytes ≡ length self.old.bytes }
     {
@@ -120,7 +121,8 @@ impl Message {
     pub fn move_last(&mut self, start: usize, count: usize)
         requires { start + count ≤ length self.old.bytes }
         ensures bytes { (before after last : List ℕ) → length before ≡ start → length last ≡ count →
-            self.old.bytes ≡ before ++ (after ++ last) → self.new.bytes ≡ before ++ (last ++ after) }
+            self.old.bytes ≡ before ++ (after ++ last)
+            → self.new.bytes ≡ before ++ (last ++ after) }
         ensures room { self.new.room ≡ self.old.room }
         ensures len { length self.new.bytes ≡ length self.old.bytes }
     {
@@ -132,7 +134,8 @@ impl Message {
     pub fn seal(&mut self)
         requires { 18 ≤ length self.old.bytes }
         ensures { self.new ≡ record self.old {
-          bytes = take 16 self.old.bytes ++ (to_be_bytes w16 (length self.old.bytes) ++ drop 18 self.old.bytes);
+          bytes = take 16 self.old.bytes
+              ++ (to_be_bytes w16 (length self.old.bytes) ++ drop 18 self.old.bytes);
         } }
     {
         let len = self.bytes.len() as u16;

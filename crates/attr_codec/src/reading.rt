@@ -33,7 +33,8 @@ pub fn read_attrs(alloc: Global, bytes: &[u8], caps: &Caps) -> Result<AttrList, 
     // What is read is spelled.
     ensures found { IfOk result (λ said. SpellsAttributes caps.now bytes.now said) }
     // What is spelled is read, unless memory runs out.
-    ensures only { (said : List Attr) → SpellsAttributes caps.now bytes.now said → Gives (λ list. list) attr_blame result (Ok said) }
+    ensures only { (said : List Attr) → SpellsAttributes caps.now bytes.now said
+        → Gives (λ list. list) attr_blame result (Ok said) }
     // Which fault it is, and that it stands in the bytes.
     ensures exact { Gives (λ list. list) attr_blame result (attrs_in caps.now bytes.now) }
     ensures within { IfErr result (λ fault. place_of fault ≤ length bytes.now) }

@@ -7,7 +7,8 @@ ghost use Rattle.update_grammar.specs.Written.{attributes_text, unreach_text, ra
 ghost use Rattle.update_grammar.specs.Attributes.{transitive, optional_transitive};
 ghost use Rattle.update_grammar.specs.Values.{origin_number, aggregator_text};
 ghost use Rattle.attr_codec.specs.Buffer.{HasRoom, Appended, max_message};
-ghost use Rattle.attr_codec.specs.Groups.{raws_text, first_text, second_text, third_text, last_text};
+ghost use Rattle.attr_codec.specs.Groups.{first_text, second_text, third_text, last_text};
+ghost use Rattle.attr_codec.specs.Groups.{atomic_attr, aggregator_attr};
 ghost use Rattle.attr_codec.specs.Sizes.{IsShort, unreach_size};
 
 mod head;
@@ -116,8 +117,8 @@ fn put_last(out: &mut Message, attrs: &WireAttrs)
 }
 
 fn put_atomic(out: &mut Message, atomic: bool)
-    requires { HasRoom out.old (length (raws_text (raw_when atomic transitive code_atomic))) }
-    ensures { Appended out.old out.new (raws_text (raw_when atomic transitive code_atomic)) }
+    requires { HasRoom out.old (length (atomic_attr atomic)) }
+    ensures { Appended out.old out.new (atomic_attr atomic) }
 {
     if atomic {
         put_plain(out, Kind::WellKnown, ATOMIC_AGGREGATE, &[]);
@@ -125,8 +126,8 @@ fn put_atomic(out: &mut Message, atomic: bool)
 }
 
 fn put_aggregator(out: &mut Message, aggregator: Option<Aggregator>)
-    requires { HasRoom out.old (length (raws_text (raw_if aggregator_text optional_transitive code_aggregator aggregator))) }
-    ensures { Appended out.old out.new (raws_text (raw_if aggregator_text optional_transitive code_aggregator aggregator)) }
+    requires { HasRoom out.old (length (aggregator_attr aggregator)) }
+    ensures { Appended out.old out.new (aggregator_attr aggregator) }
 {
     if let Some(aggregator) = aggregator {
         put_head(out, Kind::OptionalTransitive, AGGREGATOR, AGGREGATOR_LEN);

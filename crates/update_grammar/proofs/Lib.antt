@@ -1,3 +1,4 @@
+pub mod PairLemmas
 pub mod PiecesLemmas
 pub mod StepsLemmas
 pub mod ByteLemmas

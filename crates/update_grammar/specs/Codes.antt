@@ -1,7 +1,8 @@
 -- The numbers of an UPDATE message on the wire.
 use Rattle.std.specs.Prelude.{ℕ}
 
--- how many bytes of ones begin a message, how many bytes its header has, and the type of an UPDATE (RFC 4271, section 4.1)
+-- how many bytes of ones begin a message, how many bytes its header has, and the type of an UPDATE (RFC 4271,
+-- section 4.1)
 abbrev pub marker_len : ℕ
 marker_len = 16
 

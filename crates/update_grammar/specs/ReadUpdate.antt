@@ -1,6 +1,7 @@
 -- The body of an UPDATE as it is read (RFC 4271, sections 4.3 and 6.3; RFC 4760, section 3): its effects, or the first
 -- fault. The order is: the lengths of its fields, withdrawn prefixes, attributes, announced prefixes, what is missing.
-use Rattle.std.specs.Prelude.{ℕ, ◌+◌, nat_lt, List, [], ◌∷◌, ◌++◌, length, take, drop, Option, Some, None, ok_or, Result, Ok, if◌then◌else◌}
+use Rattle.std.specs.Prelude.{ℕ, ◌+◌, nat_lt, List, [], ◌∷◌, ◌++◌, length, take, drop, Option, Some, None, ok_or}
+use Rattle.std.specs.Prelude.{Result, Ok, if◌then◌else◌}
 use Rattle.std.specs.Int.{w16, from_be_bytes}
 use Rattle.route_values.specs.declared.addr.Addr.{Addr}
 use Rattle.route_values.specs.declared.addr.Addr.TheVariants.{V4}
@@ -20,7 +21,8 @@ use Rattle.update_grammar.specs.declared.fault.UpdateFault.TheVariants as fault
 use Rattle.update_grammar.specs.Steps.{◌>>=◌, blamed}
 use Rattle.update_grammar.specs.ReadAttributes.{attrs_in}
 use Rattle.update_grammar.specs.ReadPrefixes.{keys_in}
-use Rattle.update_grammar.specs.Update.{said_first, as_origin, as_path, as_next_hop, as_reach, as_unreach, gathered, here_all, gone_all, unreached}
+use Rattle.update_grammar.specs.Update.{said_first, as_origin, as_path, as_next_hop, as_reach, as_unreach, gathered}
+use Rattle.update_grammar.specs.Update.{here_all, gone_all, unreached}
 
 -- a fault of attributes that stand so many bytes behind the front
 abbrev pub moved : ℕ → AttrFault → AttrFault

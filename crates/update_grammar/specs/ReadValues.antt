@@ -1,6 +1,7 @@
--- The values of path attributes as they are read (RFC 4271, sections 4.3 and 6.3; RFC 6793; RFC 1997; RFC 4360; RFC 4456;
--- RFC 8092): what a value says, or what is wrong with it.
-use Rattle.std.specs.Prelude.{ℕ, ◌+◌, ◌*◌, ◌/◌, ◌%◌, ◌==◌, nat_lt, Bool, not, ◌&&◌, ◌||◌, List, [], ◌∷◌, length, map, take, drop, get_or, Result, Ok, Err, if◌then◌else◌}
+-- The values of path attributes as they are read (RFC 4271, sections 4.3 and 6.3; RFC 6793; RFC 1997; RFC 4360;
+-- RFC 4456; RFC 8092): what a value says, or what is wrong with it.
+use Rattle.std.specs.Prelude.{ℕ, ◌+◌, ◌*◌, ◌/◌, ◌%◌, ◌==◌, nat_lt, Bool, not, ◌&&◌, ◌||◌, List, [], ◌∷◌, length, map}
+use Rattle.std.specs.Prelude.{take, drop, get_or, Result, Ok, Err, if◌then◌else◌}
 use Rattle.std.specs.Int.{w32, from_be_bytes}
 use Rattle.std.specs.Simd.{first_chunks}
 use Rattle.route_values.specs.declared.attrs.Aggregator.{Aggregator}
@@ -42,8 +43,11 @@ origin_in value = sized 1 (λ bytes. get_or bytes 0 0) value >>= origin_of
 unfoldable pub number_in : List ℕ → Result ℕ Wrong
 number_in value = sized number_len number_from value
 
+abbrev pub aggregator_from : List ℕ → Aggregator
+aggregator_from bytes = record { asn = number_from bytes; addr = number_from (drop number_len bytes) }
+
 unfoldable pub aggregator_in : List ℕ → Result Aggregator Wrong
-aggregator_in value = sized aggregator_len (λ bytes. record { asn = number_from bytes; addr = number_from (drop number_len bytes) }) value
+aggregator_in value = sized aggregator_len aggregator_from value
 
 unfoldable pub numbers_in : List ℕ → Result (List ℕ) Wrong
 numbers_in value = listed number_len number_from value
@@ -52,7 +56,11 @@ unfoldable pub exts_in : List ℕ → Result (List (List ℕ)) Wrong
 exts_in value = listed ext_len (λ bytes. bytes) value
 
 abbrev pub large_from : List ℕ → Large
-large_from bytes = record { global = number_from bytes; first = number_from (drop number_len bytes); second = number_from (drop (2 * number_len) bytes) }
+large_from bytes = record {
+  global = number_from bytes;
+  first = number_from (drop number_len bytes);
+  second = number_from (drop (2 * number_len) bytes);
+}
 
 unfoldable pub larges_in : List ℕ → Result (List Large) Wrong
 larges_in value = listed large_len large_from value
@@ -67,7 +75,8 @@ unfoldable pub part_at : Unit {0} → List ℕ → Result (Part × Unit {0} × L
 part_at known bytes =
     let len = number_len * get_or bytes 1 0 in
     if nat_lt (length bytes) (2 + len) then Err BadLength else
-    Ok (record { kind = get_or bytes 0 0; numbers = items_from number_len number_from (take len (drop 2 bytes)) }, tt, drop len (drop 2 bytes))
+    let numbers = items_from number_len number_from (take len (drop 2 bytes)) in
+    Ok (record { kind = get_or bytes 0 0; numbers = numbers }, tt, drop len (drop 2 bytes))
 
 -- a part is a segment where its type is 1 or 2 and it has a number
 abbrev pub is_segment : Part → Bool

@@ -1,5 +1,6 @@
 -- The one text of each UPDATE message that is written (RFC 4271, sections 4.1 and 4.3; RFC 4760; RFC 4724, section 2).
-use Rattle.std.specs.Prelude.{ℕ, ◌≡◌, ◌+◌, ◌^◌, ◌<◌, List, [], ◌∷◌, ◌++◌, length, drop, replicate, nat_lt, if◌then◌else◌, Bool, Option, Some, None, IfSome}
+use Rattle.std.specs.Prelude.{ℕ, ◌≡◌, ◌+◌, ◌^◌, ◌<◌, List, [], ◌∷◌, ◌++◌, length, drop, replicate, nat_lt}
+use Rattle.std.specs.Prelude.{if◌then◌else◌, Bool, Option, Some, None, IfSome}
 use Rattle.std.specs.List.{flat_map, AllByRecursion}
 use Rattle.std.specs.Int.{w16, to_be_bytes}
 use Rattle.route_values.specs.declared.addr.Addr.{Addr}
@@ -12,11 +13,15 @@ use Rattle.route_values.specs.Addr.{family_of, number_of, bits_of}
 use Rattle.route_values.specs.Key.{family_of_key}
 use Rattle.route_values.specs.Prefix.{IsPrefix}
 use Rattle.route_values.specs.Visible.{IsVisible}
-use Rattle.update_grammar.specs.Codes.{marker_len, header_len, update_type, short_max, code_origin, code_as_path, code_next_hop, code_med, code_local_pref, code_atomic, code_aggregator, code_communities, code_originator, code_clusters, code_reach, code_unreach, code_extended, code_large}
+use Rattle.update_grammar.specs.Codes.{marker_len, header_len, update_type, short_max, code_origin, code_as_path}
+use Rattle.update_grammar.specs.Codes.{code_next_hop, code_med, code_local_pref, code_atomic, code_aggregator}
+use Rattle.update_grammar.specs.Codes.{code_communities, code_originator, code_clusters, code_reach, code_unreach}
+use Rattle.update_grammar.specs.Codes.{code_extended, code_large}
 use Rattle.update_grammar.specs.Head.{Head}
 use Rattle.update_grammar.specs.Head as head
 use Rattle.update_grammar.specs.Prefixes.{addr_bytes, keys_text}
-use Rattle.update_grammar.specs.Values.{IsNumber, number_text, numbers_text, origin_number, path_text, IsSegment, aggregator_text, IsAggregator, exts_text, IsExt, larges_text, IsLarge}
+use Rattle.update_grammar.specs.Values.{IsNumber, number_text, numbers_text, origin_number, path_text, IsSegment}
+use Rattle.update_grammar.specs.Values.{aggregator_text, IsAggregator, exts_text, IsExt, larges_text, IsLarge}
 use Rattle.update_grammar.specs.Attributes.{Raw, raw_text, transitive, optional, optional_transitive, extended_length}
 use Rattle.update_grammar.specs.Families.{family_text}
 use Rattle.update_grammar.specs.Update.{body}

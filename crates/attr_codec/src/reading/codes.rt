@@ -33,7 +33,8 @@ impl Codes {
 
     /// Whether a code is among them.
     pub fn has(&self, code: u8) -> bool
-        ensures { (codes : List ℕ) → HasCodes self.now codes → result ≡ list_any (λ other. other == code) codes }
+        ensures { (codes : List ℕ) → HasCodes self.now codes
+            → result ≡ list_any (λ other. other == code) codes }
     {
         self.marks[usize::from(code)]
     }

@@ -6,7 +6,8 @@
 //! | 4 bytes, or none | 1 byte| as few bytes as hold them  |
 //! +------------------+-------+----------------------------+
 //! ```
-ghost use Rattle.std.specs.Prelude.{◌≡◌, ◌-◌, ◌*◌, ◌/◌, ◌^◌, ◌≤◌, List, Some, length, option_map, IfErr, IfOk, Ok};
+ghost use Rattle.std.specs.Prelude.{◌≡◌, ◌-◌, ◌*◌, ◌/◌, ◌^◌, ◌≤◌, List, Some, length, option_map};
+ghost use Rattle.std.specs.Prelude.{IfErr, IfOk, Ok};
 ghost use Rattle.answers.specs.Gives.{Gives};
 ghost use Rattle.route_values.specs.declared.key.Key.{Key};
 ghost use Rattle.route_values.specs.Addr.{bits_of};
@@ -29,7 +30,8 @@ pub fn read_keys(alloc: Global, bytes: &[u8], family: Family, path: bool) -> Res
     // What is read is spelled.
     ensures found { IfOk result (λ keys. SpellsEach (SpellsKey path family) bytes.now keys) }
     // What is spelled is read, unless memory runs out.
-    ensures only { (keys : List Key) → SpellsEach (SpellsKey path family) bytes.now keys → Gives (λ keys. keys) keys_blame result (Ok keys) }
+    ensures only { (keys : List Key) → SpellsEach (SpellsKey path family) bytes.now keys
+        → Gives (λ keys. keys) keys_blame result (Ok keys) }
     // Which prefix is at fault, and that it stands in the bytes.
     ensures exact { Gives (λ keys. keys) keys_blame result (keys_in path family bytes.now) }
     ensures within { IfErr result (λ fault. place_of_keys fault ≤ length bytes.now) }

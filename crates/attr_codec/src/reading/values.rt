@@ -4,7 +4,9 @@ ghost use Rattle.std.specs.Prelude.{◌≡◌, IfOk, Some};
 ghost use Rattle.answers.specs.Gives.{Gives};
 ghost use Rattle.update_grammar.specs.Codes.{number_len, ext_len, large_len};
 ghost use Rattle.update_grammar.specs.ReadAttributes.{said_as};
-ghost use Rattle.update_grammar.specs.ReadValues.{sized, items_from, number_from, large_from, origin_in, number_in, aggregator_in, numbers_in, exts_in, larges_in};
+ghost use Rattle.update_grammar.specs.ReadValues.{sized, items_from, number_from, large_from};
+ghost use Rattle.update_grammar.specs.ReadValues.{origin_in, number_in, aggregator_in, numbers_in};
+ghost use Rattle.update_grammar.specs.ReadValues.{exts_in, larges_in};
 ghost use Rattle.attr_codec.specs.Faults.{value_blame};
 
 use crate::codes::{AGGREGATOR_LEN, EGP, EXT_LEN, IGP, INCOMPLETE, LARGE_LEN, NUMBER_LEN};
@@ -44,7 +46,8 @@ pub fn number_in(value: &[u8]) -> Result<u32, ValueFault>
 
 /// An ATOMIC_AGGREGATE, which has no bytes (RFC 4271, section 5.1.6).
 pub fn atomic_in(value: &[u8]) -> Result<Attr, ValueFault>
-    ensures { Gives (λ said. Some said) value_blame result (said_as (λ empty. Attr.Atomic) (sized 0 (λ bytes. bytes) value.now)) }
+    ensures { Gives (λ said. Some said) value_blame result
+        (said_as (λ empty. Attr.Atomic) (sized 0 (λ bytes. bytes) value.now)) }
 {
     if value.is_empty() {
         Ok(Attr::Atomic)

@@ -5,7 +5,7 @@ ghost use Rattle.update_grammar.specs.Attributes.{raw_head, raw_text};
 ghost use Rattle.update_grammar.specs.Values.{number_text};
 ghost use Rattle.update_grammar.specs.Written.{flags_for, raw, raw_if};
 ghost use Rattle.attr_codec.specs.Buffer.{HasRoom, Appended};
-ghost use Rattle.attr_codec.specs.Groups.{raws_text};
+ghost use Rattle.attr_codec.specs.Groups.{number_attr};
 ghost use Rattle.attr_codec.specs.Kind.{flags_of};
 ghost use Rattle.attr_codec.specs.Sizes.{head_size};
 
@@ -39,8 +39,8 @@ pub fn put_plain(out: &mut Message, kind: Kind, code: u8, value: &[u8])
 
 /// Puts an attribute with a number in four bytes, where there is one.
 pub fn put_number(out: &mut Message, kind: Kind, code: u8, number: Option<u32>)
-    requires { HasRoom out.old (length (raws_text (raw_if number_text (flags_of kind) code number))) }
-    ensures { Appended out.old out.new (raws_text (raw_if number_text (flags_of kind) code number)) }
+    requires { HasRoom out.old (length (number_attr kind code number)) }
+    ensures { Appended out.old out.new (number_attr kind code number) }
 {
     if let Some(number) = number {
         put_plain(out, kind, code, &u32_bytes(number));

@@ -3,7 +3,8 @@ ghost use Rattle.std.specs.Prelude.{◌≡◌, ◌+◌, ◌*◌, ◌-◌, ◌^�
 ghost use Rattle.update_grammar.specs.Codes.{short_max, ext_len};
 ghost use Rattle.update_grammar.specs.Values.{exts_text};
 ghost use Rattle.update_grammar.specs.Written.{attributes_text};
-ghost use Rattle.attr_codec.specs.Sizes.{IsShort, attr_size, size_if, list_size, segment_size, path_size, fixed_size, attributes_size, hop_size};
+ghost use Rattle.attr_codec.specs.Sizes.{IsShort, attr_size, size_if, list_size, segment_size};
+ghost use Rattle.attr_codec.specs.Sizes.{path_size, fixed_size, attributes_size, hop_size};
 
 use crate::codes::{
     AGGREGATOR_LEN, EXT_LEN, EXTENDED_HEAD_LEN, HEAD_LEN, IPV6_HOP_LEN, LARGE_LEN, NUMBER_LEN,

@@ -5,7 +5,7 @@ ghost use Rattle.update_grammar.specs.Attributes.{optional_transitive};
 ghost use Rattle.update_grammar.specs.Values.{numbers_text, exts_text, large_text, larges_text};
 ghost use Rattle.update_grammar.specs.Written.{raw_some};
 ghost use Rattle.attr_codec.specs.Buffer.{HasRoom, Appended, max_message};
-ghost use Rattle.attr_codec.specs.Groups.{raws_text};
+ghost use Rattle.attr_codec.specs.Groups.{numbers_attr, exts_attr, larges_attr};
 ghost use Rattle.attr_codec.specs.Kind.{flags_of};
 
 use super::head::put_head;
@@ -16,8 +16,8 @@ use route_values::Large;
 /// Puts a list of numbers, unless it is empty.
 pub fn put_u32s(out: &mut Message, kind: Kind, code: u8, numbers: &[u32])
     requires room { out.old.room ≤ max_message }
-    requires fits { HasRoom out.old (length (raws_text (raw_some numbers_text (flags_of kind) code numbers.now))) }
-    ensures { Appended out.old out.new (raws_text (raw_some numbers_text (flags_of kind) code numbers.now)) }
+    requires fits { HasRoom out.old (length (numbers_attr kind code numbers.now)) }
+    ensures { Appended out.old out.new (numbers_attr kind code numbers.now) }
 {
     if numbers.is_empty() {
         return;
@@ -29,8 +29,8 @@ pub fn put_u32s(out: &mut Message, kind: Kind, code: u8, numbers: &[u32])
 /// Puts EXTENDED COMMUNITIES, unless there is none.
 pub fn put_exts(out: &mut Message, exts: &[[u8; 8]])
     requires room { out.old.room ≤ max_message }
-    requires fits { HasRoom out.old (length (raws_text (raw_some exts_text optional_transitive code_extended exts.now))) }
-    ensures { Appended out.old out.new (raws_text (raw_some exts_text optional_transitive code_extended exts.now)) }
+    requires fits { HasRoom out.old (length (exts_attr exts.now)) }
+    ensures { Appended out.old out.new (exts_attr exts.now) }
 {
     if exts.is_empty() {
         return;
@@ -47,8 +47,8 @@ pub fn put_exts(out: &mut Message, exts: &[[u8; 8]])
 /// Puts LARGE_COMMUNITY, unless there is none.
 pub fn put_larges(out: &mut Message, larges: &[Large])
     requires room { out.old.room ≤ max_message }
-    requires fits { HasRoom out.old (length (raws_text (raw_some larges_text optional_transitive code_large larges.now))) }
-    ensures { Appended out.old out.new (raws_text (raw_some larges_text optional_transitive code_large larges.now)) }
+    requires fits { HasRoom out.old (length (larges_attr larges.now)) }
+    ensures { Appended out.old out.new (larges_attr larges.now) }
 {
     if larges.is_empty() {
         return;
