@@ -14,9 +14,9 @@ use Rattle.route_values.specs.declared.attrs.Aggregator.{Aggregator}
 use Rattle.route_values.specs.declared.attrs.Large.{Large}
 use Rattle.route_values.specs.declared.path.Segment.{Segment}
 use Rattle.update_grammar.specs.Attributes.{raw_head, raw_text}
-use Rattle.update_grammar.specs.Values.{number_text, numbers_text, aggregator_text, segment_text, path_text, exts_text}
+use Rattle.update_grammar.specs.Values.{numbers_text, segment_text, path_text, exts_text}
 use Rattle.update_grammar.specs.Values.{larges_text, large_text}
-use Rattle.update_grammar.specs.Written.{flags_for, raw, raw_if, raw_some, raw_when, hop_raws, reach_raws}
+use Rattle.update_grammar.specs.Written.{flags_for, raw, raw_some, hop_raws, reach_raws}
 use Rattle.attr_codec.specs.declared.codes.Kind.{Kind}
 use Rattle.attr_codec.specs.declared.codes.Kind.TheVariants.{WellKnown, Optional, OptionalTransitive}
 use Rattle.attr_codec.specs.Groups.{raws_text, number_attr, atomic_attr, aggregator_attr}

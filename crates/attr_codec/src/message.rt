@@ -8,10 +8,10 @@ use arrayvec::ArrayVec;
 use std::alloc::Global;
 use std::marker::Model;
 
-/// The greatest length of a message (RFC 8654, section 4).
+// The greatest length of a message (RFC 8654, section 4).
 const MAX_MESSAGE: usize = 65_535;
 
-/// Where the length of the whole message stands in its header (RFC 4271, section 4.1).
+// Where the length of the whole message stands in its header (RFC 4271, section 4.1).
 const LEN_START: usize = 16;
 
 const LEN_END: usize = 18;
@@ -36,6 +36,7 @@ impl Model for Message {
 }
 
 impl Message {
+    ghost use Rattle.update_grammar.specs.Codes.{marker_len, length_end};
     ghost use Rattle.attr_codec.specs.Buffer.{HasRoom, Appended, max_message};
 
     /// An empty buffer with room for so many bytes.
@@ -132,10 +133,10 @@ impl Message {
 
     /// Writes how many bytes there are into the header (RFC 4271, section 4.1).
     pub fn seal(&mut self)
-        requires { 18 ≤ length self.old.bytes }
+        requires { length_end ≤ length self.old.bytes }
         ensures { self.new ≡ record self.old {
-          bytes = take 16 self.old.bytes
-              ++ (to_be_bytes w16 (length self.old.bytes) ++ drop 18 self.old.bytes);
+          bytes = take marker_len self.old.bytes
+              ++ (to_be_bytes w16 (length self.old.bytes) ++ drop length_end self.old.bytes);
         } }
     {
         let len = self.bytes.len() as u16;

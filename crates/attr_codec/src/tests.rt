@@ -104,13 +104,20 @@ fn bytes_of_a_buffer_are_written_over_and_moved(rt: HostRuntime) -> Result<(), F
     Ok(())
 }
 
+// A value that may go to another thread.
+fn sent<T: Send>(value: T) -> T
+    ensures { result ≡ value }
+{
+    value
+}
+
 #[test]
 fn a_buffer_is_moved_as_a_pointer(rt: HostRuntime) -> Result<(), Fail> {
     assert!(rt; std::mem::size_of::<Message>() <= 24);
     let full = vec![in rt.alloc(); 0xFF; 65_535]?;
     let mut out = Message::new(rt.alloc(), full.len())?;
     out.append(&full);
-    let moved = out;
+    let moved = sent(out);
     assert_eq!(rt; moved.bytes().len(), 65_535);
     assert_eq!(rt; moved.spare(), 0);
     Ok(())

@@ -1,14 +1,19 @@
 -- The numbers of an UPDATE message on the wire.
 use Rattle.std.specs.Prelude.{ℕ}
 
--- how many bytes of ones begin a message, how many bytes its header has, and the type of an UPDATE (RFC 4271,
--- section 4.1)
+-- how many bytes of ones begin a message (RFC 4271, section 4.1)
 abbrev pub marker_len : ℕ
 marker_len = 16
 
+-- where the length of the whole message ends, which stands behind them
+abbrev pub length_end : ℕ
+length_end = 18
+
+-- how many bytes a header has
 abbrev pub header_len : ℕ
 header_len = 19
 
+-- the type of an UPDATE
 abbrev pub update_type : ℕ
 update_type = 2
 

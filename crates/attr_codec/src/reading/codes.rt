@@ -12,7 +12,7 @@ use crate::codes::{
     NEXT_HOP, OPTIONAL, ORIGIN, ORIGINATOR_ID,
 };
 
-/// How many codes there are.
+// How many codes there are.
 const CODES: usize = 256;
 
 /// A set of codes. Each call but the first takes the same time, whatever the codes.

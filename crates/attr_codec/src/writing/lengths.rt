@@ -12,7 +12,7 @@ use crate::codes::{
 };
 use route_values::{Addr, AsPath, Family, Segment, WireAttrs};
 
-/// ORIGIN, whose value is one byte.
+// ORIGIN, whose value is one byte.
 const ORIGIN_LEN: usize = HEAD_LEN + 1;
 
 /// The length of the attributes of an announcement, without prefixes of IPv6, in bytes: 2^64 - 1 stands for any
