@@ -1,3 +1,4 @@
+pub mod PairLemmas
 pub mod PiecesLemmas
 pub mod StepsLemmas
 pub mod ByteLemmas
@@ -21,3 +22,4 @@ pub mod FamilyLemmas
 pub mod HereLemmas
 pub mod GoneLemmas
 pub mod MarkerLemmas
+pub mod BlamesLemmas

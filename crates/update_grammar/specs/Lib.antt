@@ -1,3 +1,4 @@
+pub mod Codes
 pub mod Pieces
 pub mod Prefixes
 pub mod Values
@@ -15,4 +16,4 @@ pub mod ReadValues
 pub mod ReadFamilies
 pub mod ReadAttributes
 pub mod ReadUpdate
-pub mod Gives
+pub mod Faults

@@ -6,18 +6,20 @@
 //! | 4 bytes, or none | 1 byte| as few bytes as hold them  |
 //! +------------------+-------+----------------------------+
 //! ```
-ghost use Rattle.std.specs.Prelude.{◌≡◌, ◌-◌, ◌*◌, ◌/◌, ◌^◌, ◌≤◌, List, Some, length, option_map, IfErr, IfOk, Ok};
+ghost use Rattle.std.specs.Prelude.{◌≡◌, ◌-◌, ◌*◌, ◌/◌, ◌^◌, ◌≤◌, List, Some, length, option_map};
+ghost use Rattle.std.specs.Prelude.{IfErr, IfOk, Ok};
+ghost use Rattle.answers.specs.Gives.{Gives};
 ghost use Rattle.route_values.specs.declared.key.Key.{Key};
 ghost use Rattle.route_values.specs.Addr.{bits_of};
 ghost use Rattle.route_values.specs.Prefix.{IsPrefix};
 ghost use Rattle.update_grammar.specs.Pieces.{SpellsEach};
 ghost use Rattle.update_grammar.specs.Prefixes.{bytes_for, addr_from, SpellsKey};
 ghost use Rattle.update_grammar.specs.ReadPrefixes.{id_at, block_at, key_at, keys_in};
-ghost use Rattle.attr_codec.specs.Faults.{KeysGive, place_of_keys};
+ghost use Rattle.attr_codec.specs.Faults.{keys_blame, place_of_keys};
 
-use super::numbers::{u32_from, u128_from};
 use crate::codes::{BYTE_BITS, ID_LEN, IPV4_BITS, IPV6_BITS};
 use crate::fault::KeysFault;
+use crate::numbers::{read_u32, u32_from, u128_from};
 use route_values::{Addr, Family, Key, Keys, Prefix};
 use std::alloc::Global;
 
@@ -25,12 +27,13 @@ use std::alloc::Global;
 /// before each prefix, else each identifier is 0. Bits past a prefix's count aren't looked at. The work grows with
 /// the number of bytes.
 pub fn read_keys(alloc: Global, bytes: &[u8], family: Family, path: bool) -> Result<Keys, KeysFault>
-    // What is read is spelled.
+    // What is read is spelled, and what is spelled is read, unless memory runs out.
     ensures found { IfOk result (λ keys. SpellsEach (SpellsKey path family) bytes.now keys) }
-    // What is spelled is read, unless memory runs out.
-    ensures only { (keys : List Key) → SpellsEach (SpellsKey path family) bytes.now keys → KeysGive result (Ok keys) }
+    ensures only { (keys : List Key) → SpellsEach (SpellsKey path family) bytes.now keys
+        → Gives (λ keys. keys) keys_blame result (Ok keys) }
+
     // Which prefix is at fault, and that it stands in the bytes.
-    ensures exact { KeysGive result (keys_in path family bytes.now) }
+    ensures exact { Gives (λ keys. keys) keys_blame result (keys_in path family bytes.now) }
     ensures within { IfErr result (λ fault. place_of_keys fault ≤ length bytes.now) }
 {
     keys_in(alloc, bytes, family, path)
@@ -38,7 +41,7 @@ pub fn read_keys(alloc: Global, bytes: &[u8], family: Family, path: bool) -> Res
 
 // The keys, one after the other.
 fn keys_in(alloc: Global, bytes: &[u8], family: Family, path: bool) -> Result<Keys, KeysFault>
-    ensures exact { KeysGive result (keys_in path family bytes.now) }
+    ensures exact { Gives (λ keys. keys) keys_blame result (keys_in path family bytes.now) }
     ensures within { IfErr result (λ fault. place_of_keys fault ≤ length bytes.now) }
 {
     let mut keys = Keys::new(alloc);
@@ -77,8 +80,7 @@ fn id_at(bytes: &[u8], path: bool) -> Option<(u32, &[u8])>
     if bytes.len() < ID_LEN {
         return None;
     }
-    let (front, rest) = bytes.split_at(ID_LEN);
-    Some((u32_from(front), rest))
+    Some((read_u32(bytes), &bytes[ID_LEN..]))
 }
 
 // The prefix at the front and the bytes behind it.
@@ -126,7 +128,7 @@ fn addr_from(family: Family, bits: u8, field: &[u8]) -> Addr
 
 // A number whose last bits are made zero.
 fn without_last(number: u128, bits: u8) -> u128
-    requires { bits ≤ 128 }
+    requires { bits ≤ IPV6_BITS }
     ensures value { result ≡ number / 2 ^ bits * 2 ^ bits }
     ensures below { result ≤ number }
 {
