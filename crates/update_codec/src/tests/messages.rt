@@ -1,10 +1,5 @@
 //! Messages that are written from values and read as the same values.
-ghost use Rattle.std.specs.Prelude.{◌≡◌, All};
-ghost use Rattle.route_values.specs.declared.addr.Family.TheVariants.{Ipv4};
-ghost use Rattle.route_values.specs.Addr.{family_of};
-ghost use Rattle.attr_codec.specs.Sizes.{IsShort};
-
-use super::reached::announce;
+use super::opened::withdraw;
 use super::values::{IPV4_NET, Net, effects, keys};
 use super::vectors::{
     FULL_IDENTIFIED, FULL_IPV4, LONG_PATH, ONE_PREFIX, REACHED, REACHED_BETWEEN,
@@ -149,53 +144,22 @@ const MESSAGES: &[Row] = &[
     },
 ];
 
-// Writes a message.
+// Writes a message; all of its keys fit.
 fn written(alloc: Global, row: &Row) -> Result<Message, Fail> {
     let keys = keys(alloc, row.nets)?;
-    Ok(match row.head {
-        Head::Here(said, hop) => announced(&attrs(alloc, said, hop)?, &row.caps, keys.as_slice()),
-        Head::Gone(family) => withdrawn(family, &row.caps, keys.as_slice()),
-        Head::End(family) => marker(family),
-    })
-}
-
-fn announced(attrs: &WireAttrs, caps: &Caps, keys: &[Key]) -> Message
-    requires short { All IsShort attrs.now.path }
-{
-    match attrs.hop.family() {
-        Family::Ipv4 => announced_ipv4(attrs, caps, keys),
-        Family::Ipv6 => {
-            let mut out = Message::new(4096);
-            let _ = announce(&mut out, attrs, caps, keys);
-            out
+    let mut out = Message::new(4096);
+    let whole = match row.head {
+        Head::Here(said, hop) => {
+            let attrs = attrs(alloc, said, hop)?;
+            announce(&mut out, &attrs, hop.family(), &row.caps, keys.as_slice()) == keys.len()
         }
+        Head::Gone(family) => withdraw(&mut out, family, &row.caps, keys.as_slice()) == keys.len(),
+        Head::End(family) => put_end_of_rib(&mut out, family),
+    };
+    if !whole {
+        return Err("a key does not fit".into());
     }
-}
-
-fn announced_ipv4(attrs: &WireAttrs, caps: &Caps, keys: &[Key]) -> Message
-    requires hop { family_of attrs.now.hop ≡ Ipv4 }
-    requires short { All IsShort attrs.now.path }
-{
-    let mut out = opened(attrs, Family::Ipv4);
-    for key in keys {
-        let _ = put_ipv4(&mut out, caps, key);
-    }
-    out
-}
-
-fn withdrawn(family: Family, caps: &Caps, keys: &[Key]) -> Message {
-    let mut out = Message::new(4096);
-    open_gone(&mut out, family);
-    for key in keys {
-        let _ = withdraw(&mut out, caps, key);
-    }
-    out
-}
-
-fn marker(family: Family) -> Message {
-    let mut out = Message::new(4096);
-    let _ = put_end_of_rib(&mut out, family);
-    out
+    Ok(out)
 }
 
 // The effects of a message.

@@ -21,7 +21,8 @@ ghost use Rattle.update_grammar.specs.Prefixes.{key_text};
 ghost use Rattle.update_grammar.specs.Update.{body};
 ghost use Rattle.update_grammar.specs.Written.{written, message, unreach_text};
 ghost use Rattle.attr_codec.specs.Buffer.{HasRoom};
-ghost use Rattle.update_codec.specs.Sizes.{empty_size, unreach_growth};
+ghost use Rattle.update_codec.specs.Open.{IsOpenGone};
+ghost use Rattle.update_codec.specs.Sizes.{unreach_growth};
 
 use super::attribute::{Place, growth, put_last};
 use super::frame::{FRAME_LEN, LEN_LEN, close_attributes};
@@ -37,17 +38,22 @@ const WITHDRAWN_LEN: usize = 19;
 /// where the session has path identifiers for the family. The length of an MP_UNREACH_NLRI has two bytes exactly where
 /// its value passes 255 bytes. Answers false, with `out` as it was, exactly where it doesn't fit.
 pub fn put_unreach(out: &mut Message, caps: &Caps, key: &Key) -> bool
-    requires open { empty_size (family_of_key key.now) ≤ length out.old.bytes }
+    requires open { IsOpenGone caps.now (family_of_key key.now) out.old.bytes }
+
+    // It fits exactly where the message with the prefix has no more bytes than the room.
     ensures fits { (keys : List RouteKey) →
         out.old.bytes ≡ written caps.now (head.Gone (family_of_key key.now)) keys →
         IsTrue result ↔ (length (written caps.now (head.Gone (family_of_key key.now)) (keys ++ key.now ∷ [])) ≤ out.old.room) }
     ensures size { IsTrue result ↔ HasRoom out.old (unreach_growth (family_of_key key.now) (length out.old.bytes)
         (length (key_text (has_path caps.now (family_of_key key.now)) key.now))) }
+
+    // What is left where it fits, and where it doesn't.
     ensures ok { OnTrue result ((keys : List RouteKey) →
         out.old.bytes ≡ written caps.now (head.Gone (family_of_key key.now)) keys →
         out.new.bytes ≡ written caps.now (head.Gone (family_of_key key.now)) (keys ++ key.now ∷ [])) }
     ensures len { OnTrue result (length out.new.bytes ≡ length out.old.bytes + unreach_growth (family_of_key key.now)
         (length out.old.bytes) (length (key_text (has_path caps.now (family_of_key key.now)) key.now))) }
+    ensures still_open { IsOpenGone caps.now (family_of_key key.now) out.new.bytes }
     ensures room { out.new.room ≡ out.old.room }
     ensures refused { OnFalse result (out.new ≡ out.old) }
 {
