@@ -1,18 +1,18 @@
 -- What is told of attributes does what the attributes do.
-use Rattle.std.proofs.Common.{◌≡◌, List, [], ◌∷◌, ◌++◌, Option, Some, None, Result, Ok, Err, ap, sym, ◌∙◌, refl, subst, append_assoc}
+use Rattle.std.proofs.Common.{◌≡◌, List, [], ◌∷◌, ◌++◌, Option, Some, None, Result, Ok, Err, ap, sym, ◌∙◌, refl, append_assoc}
+use Rattle.answers.specs.Gives.{Blames}
 use Rattle.route_values.specs.declared.key.Key.{Key}
 use Rattle.update_grammar.specs.declared.effect.Attr.{Attr}
 use Rattle.update_grammar.specs.declared.effect.Effect.{Effect}
 use Rattle.update_grammar.specs.declared.effect.Effect.TheVariants.{Gone}
 use Rattle.update_grammar.specs.declared.effect.Reached.{Reached}
-use Rattle.update_grammar.specs.declared.fault.AttrFault.TheVariants as attr_fault
 use Rattle.update_grammar.specs.declared.fault.UpdateFault.{UpdateFault}
-use Rattle.update_grammar.specs.declared.fault.UpdateFault.TheVariants as fault
-use Rattle.update_grammar.specs.Gives.{UpdateFails}
+use Rattle.update_grammar.specs.Faults.{update_blame}
 use Rattle.update_grammar.specs.ReadUpdate.{reached_by, announced_by, effects_of}
 use Rattle.update_grammar.specs.Steps.{◌>>=◌}
 use Rattle.update_grammar.specs.Update.{said_first, as_reach, as_unreach, gone_all, unreached}
 use Rattle.update_codec.specs.declared.reading.matters.Told.{Told}
+use Rattle.update_grammar.proofs.BlamesLemmas.{blames_along}
 use Rattle.update_codec.specs.Matters.{matters_of, told_of, reached_from, announced_from, all_from}
 
 reached_same : (said : List Attr) (reach : Option (Option Reached)) → reached_from (matters_of said) reach ≡ reached_by said reach
@@ -23,18 +23,6 @@ reached_same said (Some (Some reached)) = refl
 announced_same : (said : List Attr) (keys : List Key) → announced_from (matters_of said) keys ≡ announced_by said keys
 announced_same said [] = refl
 announced_same said (key ∷ keys) = refl
-
--- a fault of the first step is the fault of the whole
-fails_then : {A B : Type 0} (e : UpdateFault) (read : Result A UpdateFault) (f : A → Result B UpdateFault) → UpdateFails e read → UpdateFails e (read >>= f)
-fails_then (fault.Attr (attr_fault.Cut place)) read f fails = ap (λ r. r >>= f) fails
-fails_then (fault.Attr (attr_fault.BadFlags place)) read f fails = ap (λ r. r >>= f) fails
-fails_then (fault.Attr (attr_fault.Twice place)) read f fails = ap (λ r. r >>= f) fails
-fails_then (fault.Attr (attr_fault.BadLength place)) read f fails = ap (λ r. r >>= f) fails
-fails_then (fault.Attr (attr_fault.BadValue place)) read f fails = ap (λ r. r >>= f) fails
-fails_then (fault.Attr attr_fault.NoMemory) read f fails = tt
-fails_then (fault.BadLengths place) read f fails = ap (λ r. r >>= f) fails
-fails_then (fault.BadPrefix place) read f fails = ap (λ r. r >>= f) fails
-fails_then (fault.MissingAttr code) read f fails = ap (λ r. r >>= f) fails
 
 -- what is announced, of the attributes themselves
 abbrev all_by : List Attr → Option (Option Reached) → List Key → Result (List Effect) UpdateFault
@@ -66,9 +54,10 @@ told_effects t gone said here is =
     ∙ ap (λ (u : Told). all_from u.matters u.reach here >>= λ all. Ok (gone_all (gone ++ unreached u.unreach) ++ all)) (sym is)
 
 -- what is missing
-pub told_fails : (e : UpdateFault) (t : Told) (gone : List Key) (said : List Attr) (here : List Key) → t ≡ told_of said → UpdateFails e (all_from t.matters t.reach here) → UpdateFails e (effects_of gone said here)
+pub told_fails : (e : UpdateFault) (t : Told) (gone : List Key) (said : List Attr) (here : List Key) → t ≡ told_of said → Blames (update_blame e) (all_from t.matters t.reach here) → Blames (update_blame e) (effects_of gone said here)
 told_fails e t gone said here is fails =
-    subst (UpdateFails e) (sym (told_effects t gone said here is)) (fails_then e (all_from t.matters t.reach here) _ fails)
+    blames_along (update_blame e) (all_from t.matters t.reach here) (effects_of gone said here)
+    (λ missing found. told_effects t gone said here is ∙ ap (λ r. r >>= λ all. Ok (gone_all (gone ++ unreached t.unreach) ++ all)) found) fails
 
 -- all effects
 pub told_all : (t : Told) (gone : List Key) (said : List Attr) (here keys : List Key) (announced effects : List Effect) → t ≡ told_of said → all_from t.matters t.reach here ≡ Ok announced

@@ -3,7 +3,7 @@
 use Rattle.std.specs.Prelude.{ℕ, ◌≡◌, List}
 use Rattle.route_values.specs.declared.addr.Family.{Family}
 use Rattle.route_values.specs.declared.attrs.WireAttrs.{WireAttrs}
-use Rattle.route_values.specs.declared.caps.Caps.{Caps}
+use Rattle.route_values.specs.Caps.{Caps}
 use Rattle.route_values.specs.declared.key.Key.{Key}
 use Rattle.update_grammar.specs.Head as head
 use Rattle.update_grammar.specs.Written.{written}

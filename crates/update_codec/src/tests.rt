@@ -18,37 +18,13 @@ use attr_codec::Message;
 use fronts::{LONG_FRONT, SHORT_FRONT};
 use opened::{announce, withdraw_within};
 use route_values::{
-    Addr, Aggregator, AsPath, Caps, Exts, Family, Items, Key, Keys, Large, Larges, NoMemory,
-    Origin, Prefix, Segment, U32s, WireAttrs,
+    Addr, Aggregator, AsPath, Caps, Family, Items, Key, Keys, Large, NoMemory, Origin, Prefix,
+    Segment, U32s, WireAttrs,
 };
 use std::alloc::Global;
 use std::test::Fail;
-use values::{IPV4_HOP, IPV6_HOP, IPV6_NET, Said, attrs, key, longest};
+use values::{Carried, IPV4_HOP, IPV6_HOP, IPV6_NET, Said, attrs, key, longest};
 use vectors::{IPV4_MARKER, IPV6_MARKER};
-
-const NO_PATHS: Caps = Caps {
-    ipv4: true,
-    ipv6: true,
-    ipv4_path: false,
-    ipv6_path: false,
-    extended: false,
-};
-
-const PATHS: Caps = Caps {
-    ipv4: true,
-    ipv6: true,
-    ipv4_path: true,
-    ipv6_path: true,
-    extended: false,
-};
-
-const IPV4_ALONE: Caps = Caps {
-    ipv4: true,
-    ipv6: false,
-    ipv4_path: false,
-    ipv6_path: false,
-    extended: false,
-};
 
 fn with_communities(alloc: Global, count: usize) -> Result<WireAttrs, NoMemory>
     ensures hop { IfOk result (λ w. family_of w.hop ≡ Ipv4) }
@@ -60,12 +36,13 @@ fn with_communities(alloc: Global, count: usize) -> Result<WireAttrs, NoMemory>
 }
 
 #[test]
-fn an_opened_withdrawal_is_a_marker(rt: HostRuntime) {
+fn an_opened_withdrawal_is_a_marker(rt: HostRuntime) -> Result<(), Fail> {
     for (family, wanted) in [(Family::Ipv4, IPV4_MARKER), (Family::Ipv6, IPV6_MARKER)] {
-        let mut out = Message::new(4096);
+        let mut out = Message::new(rt.alloc(), 4096)?;
         open_gone(&mut out, family);
         assert_eq!(rt; out.bytes(), wanted, "a withdrawal of {family:?}");
     }
+    Ok(())
 }
 
 #[test]
@@ -74,10 +51,16 @@ fn attributes_at_all_limits_leave_room_for_a_prefix(rt: HostRuntime) -> Result<(
     let ipv4 = (IPV4_HOP, (Addr::V4(0x0A00_0001), 32, 1), 3835);
     let ipv6 = (IPV6_HOP, (Addr::V6(0x2001_0DB8 << 96), 128, 1), 3864);
     for (hop, whole, len) in [ipv4, ipv6] {
-        let mut out = Message::new(4096);
+        let mut out = Message::new(rt.alloc(), 4096)?;
         let attrs = longest(alloc, hop)?;
         let family = hop.family();
-        let count = announce(&mut out, &attrs, family, &PATHS, &[key(whole)?]);
+        let count = announce(
+            &mut out,
+            &attrs,
+            family,
+            &Carried::Identified.caps(),
+            &[key(whole)?],
+        );
         assert_eq!(rt; (count, out.bytes().len()), (1, len), "{family:?}");
     }
     Ok(())
@@ -95,8 +78,14 @@ fn what_does_not_fit_leaves_the_buffer(rt: HostRuntime) -> Result<(), Fail> {
         (1012, 2, 1, 4096),
     ] {
         let attrs = with_communities(rt.alloc(), communities)?;
-        let mut out = Message::new(4096);
-        let count = announce(&mut out, &attrs, Family::Ipv4, &NO_PATHS, &keys[..some]);
+        let mut out = Message::new(rt.alloc(), 4096)?;
+        let count = announce(
+            &mut out,
+            &attrs,
+            Family::Ipv4,
+            &Carried::Both.caps(),
+            &keys[..some],
+        );
         assert_eq!(rt;
             (count, out.bytes().len()),
             (fits, len),
@@ -112,8 +101,8 @@ fn an_attribute_of_256_bytes_has_a_length_of_two(rt: HostRuntime) -> Result<(), 
     keys[50] = key((Addr::V6(0x20 << 120), 8, 0))?;
     keys[51] = key((Addr::V6(0), 0, 0))?;
     for (room, fits, front) in [(282, 51, SHORT_FRONT), (283, 52, LONG_FRONT)] {
-        let mut out = Message::new(room);
-        let count = withdraw_within(&mut out, Family::Ipv6, &NO_PATHS, &keys);
+        let mut out = Message::new(rt.alloc(), room)?;
+        let count = withdraw_within(&mut out, Family::Ipv6, &Carried::Both.caps(), &keys);
         assert_eq!(rt; count, fits, "a room of {room}");
         assert!(rt; out.bytes().starts_with(front), "a room of {room}");
     }

@@ -1,7 +1,8 @@
 //! The effects of a body's parts: what its attributes and prefixes do, or which attribute is missing.
 ghost use Rattle.std.specs.Prelude.{◌≡◌, ◌<◌, ◌++◌, List, length, option_to_list, IfOk, OnOk};
 ghost use Rattle.std.specs.List.{flat_map};
-ghost use Rattle.update_grammar.specs.Gives.{UpdateGives};
+ghost use Rattle.answers.specs.Gives.{Gives};
+ghost use Rattle.update_grammar.specs.Faults.{update_blame};
 ghost use Rattle.update_grammar.specs.ReadUpdate.{effects_of};
 ghost use Rattle.update_grammar.specs.Update.{gone_all, unreached};
 ghost use Rattle.update_codec.specs.Effects.{announced_effects};
@@ -22,7 +23,7 @@ pub fn effects_of(
     said: AttrList,
     here: Keys,
 ) -> Result<Effects, UpdateFault>
-    ensures { UpdateGives (λ e. e) result (effects_of gone said here) }
+    ensures { Gives (λ e. e) update_blame result (effects_of gone said here) }
 {
     let Told {
         matters,
@@ -42,7 +43,7 @@ fn announced_by(
     reach: Option<Option<Reached>>,
     keys: Keys,
 ) -> Result<Vec<Announced>, UpdateFault>
-    ensures { UpdateGives (λ all. flat_map announced_effects all.items) result (all_from matters reach keys) }
+    ensures { Gives (λ all. flat_map announced_effects all.items) update_blame result (all_from matters reach keys) }
 {
     if keys.len() == 0 {
         let reached = reached_by(matters, reach)?;
@@ -59,7 +60,7 @@ fn reached_besides(
     matters: &Matters,
     reach: Option<Option<Reached>>,
 ) -> Result<Option<Announced>, UpdateFault>
-    ensures { UpdateGives (λ a. flat_map announced_effects (option_to_list a)) result (reached_from matters.now reach) }
+    ensures { Gives (λ a. flat_map announced_effects (option_to_list a)) update_blame result (reached_from matters.now reach) }
 {
     if reach.is_none() {
         return Ok(None);
@@ -72,7 +73,7 @@ fn reached_by(
     mut matters: Matters,
     reach: Option<Option<Reached>>,
 ) -> Result<Option<Announced>, UpdateFault>
-    ensures { UpdateGives (λ a. flat_map announced_effects (option_to_list a)) result (reached_from matters reach) }
+    ensures { Gives (λ a. flat_map announced_effects (option_to_list a)) update_blame result (reached_from matters reach) }
 {
     let Some(reach) = reach else {
         return Ok(None);
@@ -88,7 +89,7 @@ fn reached_by(
 // What the prefixes behind the attributes announce. They need NEXT_HOP too (RFC 4271, section 6.3).
 fn behind_attributes(mut matters: Matters, keys: Keys) -> Result<Announced, UpdateFault>
     requires { 0 < length keys }
-    ensures { UpdateGives announced_effects result (announced_from matters keys) }
+    ensures { Gives announced_effects update_blame result (announced_from matters keys) }
 {
     let (origin, path) = needed(&mut matters)?;
     let Some(hop) = matters.next_hop else {
@@ -100,7 +101,7 @@ fn behind_attributes(mut matters: Matters, keys: Keys) -> Result<Announced, Upda
 
 // ORIGIN and AS_PATH, which announcements need (RFC 4271, section 6.3). The path is taken out.
 fn needed(matters: &mut Matters) -> Result<(Origin, AsPath), UpdateFault>
-    ensures given { UpdateGives (λ both. both) result (needed_in matters.old) }
+    ensures given { Gives (λ both. both) update_blame result (needed_in matters.old) }
     ensures others { OnOk result (matters.new ≡ record matters.old { path = None }) }
 {
     let Some(origin) = matters.origin else {

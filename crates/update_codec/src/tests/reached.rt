@@ -36,12 +36,12 @@ fn a_value_of_256_bytes_has_a_length_of_two(rt: HostRuntime) -> Result<(), Fail>
     let mut attrs = attrs(rt.alloc(), Said::Least, IPV6_HOP)?;
     attrs.extended = Items::from_vec(vec![in rt.alloc(); [1; 8]]?);
     for (count, front) in [(47, REACHED_SHORT_FRONT), (48, REACHED_LONG_FRONT)] {
-        let mut out = Message::new(4096);
+        let mut out = Message::new(rt.alloc(), 4096)?;
         let put = announce(
             &mut out,
             &attrs,
             Family::Ipv6,
-            &NO_PATHS,
+            &Carried::Both.caps(),
             &filling()?[..count],
         );
         assert_eq!(rt; put, count);
@@ -55,8 +55,14 @@ fn a_value_of_256_bytes_has_a_length_of_two(rt: HostRuntime) -> Result<(), Fail>
 fn the_second_byte_of_a_length_wants_room(rt: HostRuntime) -> Result<(), Fail> {
     for (communities, fixed, count, len) in [(949, false, 48, 4096), (945, true, 47, 4095)] {
         let attrs = with_more(rt.alloc(), communities, fixed)?;
-        let mut out = Message::new(4096);
-        let put = announce(&mut out, &attrs, Family::Ipv6, &NO_PATHS, &filling()?);
+        let mut out = Message::new(rt.alloc(), 4096)?;
+        let put = announce(
+            &mut out,
+            &attrs,
+            Family::Ipv6,
+            &Carried::Both.caps(),
+            &filling()?,
+        );
         assert_eq!(rt;
             (put, out.bytes().len()),
             (count, len),

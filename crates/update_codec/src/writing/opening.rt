@@ -1,7 +1,7 @@
 //! Messages without prefixes: those that prefixes are then put into, and End-of-RIB markers.
 ghost use Rattle.std.specs.Prelude.{◌≡◌, ◌+◌, ◌≤◌, ◌↔◌, [], All, length, IsTrue};
 ghost use Rattle.std.specs.Bool.{OnTrue, OnFalse};
-ghost use Rattle.route_values.specs.declared.caps.Caps.{Caps};
+ghost use Rattle.route_values.specs.Caps.{Caps};
 ghost use Rattle.route_values.specs.Addr.{family_of};
 ghost use Rattle.route_values.specs.Limits.{counts_sent, IsWithinLimits};
 ghost use Rattle.update_grammar.specs.Head as head;

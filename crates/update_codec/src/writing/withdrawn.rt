@@ -29,6 +29,7 @@ use super::frame::{FRAME_LEN, LEN_LEN, close_attributes};
 use super::key::{insert_key, key_len};
 use attr_codec::Message;
 use attr_codec::codes::MP_UNREACH_NLRI;
+use attr_codec::numbers::u16_bytes;
 use route_values::{Caps, Family, Key};
 
 /// Where the length of the withdrawn routes stands (RFC 4271, section 4.3).
@@ -93,7 +94,7 @@ fn put_withdrawn(out: &mut Message, key: &Key, path: bool)
     let end = out.bytes().len();
     insert_key(out, end - LEN_LEN, key, path);
     let len = out.bytes().len();
-    out.overwrite(WITHDRAWN_LEN, &((len - FRAME_LEN) as u16).to_be_bytes());
+    out.overwrite(WITHDRAWN_LEN, &u16_bytes((len - FRAME_LEN) as u16));
     out.seal();
 }
 
