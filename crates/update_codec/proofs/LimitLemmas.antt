@@ -1,5 +1,6 @@
 -- How many bytes attributes within the limits take, and messages of one key.
-use Rattle.std.proofs.Common.{ℕ, ◌≡◌, ◌+◌, ◌*◌, ◌≤◌, ◌==◌, inl, inr, Bool, true, false, List, [], ◌∷◌, ◌++◌, length, arith, length-append, length-take, is_some, subst, refl, if◌then◌else◌}
+use Rattle.std.proofs.Common.{ℕ, ◌≡◌, ◌+◌, ◌*◌, ◌≤◌, ◌==◌, inl, inr, Bool, true, false, List, [], ◌∷◌, ◌++◌, length}
+use Rattle.std.proofs.Common.{arith, length-append, length-take, is_some, subst, refl, if◌then◌else◌}
 use Rattle.std.proofs.lemmas.List.Sums.{sum_by-cons}
 use Rattle.std.specs.List.{AllByRecursion}
 use Rattle.std.specs.Int.{w32, to_be_bytes}
@@ -55,12 +56,19 @@ list_most : (count width : ℕ) → list_size count width ≤ 4 + count * width
 list_most count width = some_most (count == 0) (count * width) (4 + count * width) (attr_most (count * width))
 
 list_short : (count width : ℕ) → count * width ≤ 255 → list_size count width ≤ 3 + count * width
-list_short count width short = some_most (count == 0) (count * width) (3 + count * width) (attr_short (count * width) short)
+list_short count width short = some_most (count == 0) (count * width) (3 + count * width)
+    (attr_short (count * width) short)
 
 -- a path is longest where each number has a segment of its own
 path_most : (path : List Segment) → AllByRecursion IsSegment path → path_size path ≤ 6 * numbers_in path
 path_most [] all = omega arith
-path_most (s ∷ path) all = omega (arith, sum_by-cons segment_size s path, sum_by-cons (λ (t : Segment). length t.numbers) s path, all.0.filled, path_most path all.1)
+path_most (s ∷ path) all = omega (
+  arith,
+  sum_by-cons segment_size s path,
+  sum_by-cons (λ (t : Segment). length t.numbers) s path,
+  all.0.filled,
+  path_most path all.1,
+)
 
 -- NEXT_HOP, and MP_REACH_NLRI without prefixes
 hop_four : (hop : Addr) → family_of hop ≡ Ipv4 → hop_size Ipv4 hop ≡ 7
@@ -76,7 +84,8 @@ eight_each [] all = omega arith
 eight_each (ext ∷ exts) all = omega (arith, length-append ext (exts_text exts), all.0, eight_each exts all.1)
 
 -- all attributes: those beside the next hop take at most 3,796 bytes
-sum_most : (family : Family) (w : WireAttrs) (hop : ℕ) → hop_size family w.hop ≡ hop → path_size w.path ≤ 1530 → IsWithinLimits (counts_sent w) → attributes_size family w ≤ hop + 3796
+sum_most : (family : Family) (w : WireAttrs) (hop : ℕ) → hop_size family w.hop ≡ hop → path_size w.path ≤ 1530
+    → IsWithinLimits (counts_sent w) → attributes_size family w ≤ hop + 3796
 sum_most family w hop hop_is path within =
     let med = size_most (is_some w.med) 4 in
     let local_pref = size_most (is_some w.local_pref) 4 in
@@ -90,7 +99,8 @@ sum_most family w hop hop_is path within =
     let large = list_most (length w.large) 12 in
     omega (arith, within.communities, within.clusters, within.extended, within.large)
 
-attributes_most : (family : Family) (w : WireAttrs) (hop : ℕ) → hop_size family w.hop ≡ hop → IsSendable family w → IsWithinLimits (counts_sent w) → length (attributes_text family w []) ≤ hop + 3796
+attributes_most : (family : Family) (w : WireAttrs) (hop : ℕ) → hop_size family w.hop ≡ hop → IsSendable family w
+    → IsWithinLimits (counts_sent w) → length (attributes_text family w []) ≤ hop + 3796
 attributes_most family w hop hop_is sendable within =
     let path : path_size w.path ≤ 1530 = omega (arith, path_most w.path sendable.path, within.numbers) in
     let size = length-attributes_text family w (eight_each w.extended sendable.extended) in
@@ -113,17 +123,26 @@ id_most : (path : Bool) (id : ℕ) → length (if path then to_be_bytes w32 id e
 id_most true id = omega arith
 id_most false id = omega arith
 
-key_most : (path : Bool) (key : Key) (family : Family) → family_of_key key ≡ family → length (key_text path key) ≤ most_key family
+key_most : (path : Bool) (key : Key) (family : Family) → family_of_key key ≡ family
+    → length (key_text path key) ≤ most_key family
 key_most path key family is =
     let block = length-take (bytes_for key.prefix.len) (addr_bytes key.prefix.addr) in
     subst (λ f. length (key_text path key) ≤ most_key f) is
-    (omega (arith, length-append (if path then to_be_bytes w32 key.id else []) (block_text key.prefix), id_most path key.id, block, addr_len key.prefix.addr))
+    (omega (
+      arith,
+      length-append (if path then to_be_bytes w32 key.id else []) (block_text key.prefix),
+      id_most path key.id,
+      block,
+      addr_len key.prefix.addr,
+    ))
 
-keys_most : (path : Bool) (key : Key) (family : Family) → family_of_key key ≡ family → length (keys_text path (key ∷ [])) ≤ most_key family
+keys_most : (path : Bool) (key : Key) (family : Family) → family_of_key key ≡ family
+    → length (keys_text path (key ∷ [])) ≤ most_key family
 keys_most path key family is = omega (arith, length-append (key_text path key) [], key_most path key family is)
 
 -- a message of attributes and of prefixes behind them
-length-nlri : (attributes prefixes : List ℕ) → length (message 2 (body [] attributes prefixes)) ≡ 23 + length attributes + length prefixes
+length-nlri : (attributes prefixes : List ℕ)
+    → length (message 2 (body [] attributes prefixes)) ≡ 23 + length attributes + length prefixes
 length-nlri attributes prefixes = omega (arith, length-append attributes prefixes)
 
 -- an MP_REACH_NLRI of one prefix, and one without
@@ -131,45 +150,72 @@ reach_bare : (hop : Addr) → family_of hop ≡ Ipv6 → length (raw_text (raw o
 reach_bare (V4 n) is = cc
 reach_bare (V6 n) is = refl
 
-reach_one : (hop : Addr) (prefixes : List ℕ) → family_of hop ≡ Ipv6 → length prefixes ≤ 21 → length (raw_text (raw optional 14 (reach_value hop prefixes))) ≤ 45
+reach_one : (hop : Addr) (prefixes : List ℕ) → family_of hop ≡ Ipv6 → length prefixes ≤ 21
+    → length (raw_text (raw optional 14 (reach_value hop prefixes))) ≤ 45
 reach_one (V4 n) prefixes is few = cc
-reach_one (V6 n) prefixes is few = omega (arith, length-optional 14 (reach_value (V6 n) prefixes), attr_short (length (reach_value (V6 n) prefixes)) (omega arith))
+reach_one (V6 n) prefixes is few = omega (
+  arith,
+  length-optional 14 (reach_value (V6 n) prefixes),
+  attr_short (length (reach_value (V6 n) prefixes)) (omega arith),
+)
 
-announced_six : (caps : Caps) (w : WireAttrs) (key : Key) → IsSendable Ipv6 w → IsWithinLimits (counts_sent w) → family_of_key key ≡ Ipv6 → length (announced caps w (key ∷ [])) ≤ 3864
+announced_six : (caps : Caps) (w : WireAttrs) (key : Key) → IsSendable Ipv6 w → IsWithinLimits (counts_sent w)
+    → family_of_key key ≡ Ipv6 → length (announced caps w (key ∷ [])) ≤ 3864
 announced_six caps w key sendable within is =
-    let one = reach_one w.hop (keys_text caps.ipv6_path (key ∷ [])) sendable.hop.of_family (keys_most caps.ipv6_path key Ipv6 is) in
+    let one = reach_one w.hop (keys_text caps.ipv6_path (key ∷ [])) sendable.hop.of_family
+    (keys_most caps.ipv6_path key Ipv6 is) in
     let bare = reach_bare w.hop sendable.hop.of_family in
-    let whole : length (announced caps w []) ≤ 3843 = omega (arith, length-nlri (attributes_text Ipv6 w []) [], attributes_fit Ipv6 w sendable within) in
+    let whole : length (announced caps w []) ≤ 3843 = omega (
+      arith,
+      length-nlri (attributes_text Ipv6 w []) [],
+      attributes_fit Ipv6 w sendable within,
+    ) in
     omega (arith, length-announced caps w (key ∷ []), length-announced caps w [])
 
 pub announcement_fits : AnnouncementFits
 announcement_fits caps Ipv4 w key sendable within is =
-    omega (arith, length-nlri (attributes_text Ipv4 w []) (keys_text caps.ipv4_path (key ∷ [])), attributes_fit Ipv4 w sendable within, keys_most caps.ipv4_path key Ipv4 is)
+    omega (
+      arith,
+      length-nlri (attributes_text Ipv4 w []) (keys_text caps.ipv4_path (key ∷ [])),
+      attributes_fit Ipv4 w sendable within,
+      keys_most caps.ipv4_path key Ipv4 is,
+    )
 announcement_fits caps Ipv6 w key sendable within is = announced_six caps w key sendable within is
 
 -- what a packer needs: the message fits the least room of a session before its first key, and with it
-pub opened_fits : (family : Family) (w : WireAttrs) → IsSendable family w → IsWithinLimits (counts_sent w) → 23 + length (attributes_text family w []) ≤ 4096
+pub opened_fits : (family : Family) (w : WireAttrs) → IsSendable family w → IsWithinLimits (counts_sent w)
+    → 23 + length (attributes_text family w []) ≤ 4096
 opened_fits Ipv4 w sendable within = omega (arith, attributes_fit Ipv4 w sendable within)
 opened_fits Ipv6 w sendable within = omega (arith, attributes_fit Ipv6 w sendable within)
 
-pub first_fits : (caps : Caps) (family : Family) (w : WireAttrs) (key : Key) → IsSendable family w → IsWithinLimits (counts_sent w) → family_of_key key ≡ family → length (written caps (head.Here family w) (key ∷ [])) ≤ 4096
+pub first_fits : (caps : Caps) (family : Family) (w : WireAttrs) (key : Key) → IsSendable family w
+    → IsWithinLimits (counts_sent w) → family_of_key key ≡ family
+    → length (written caps (head.Here family w) (key ∷ [])) ≤ 4096
 first_fits caps Ipv4 w key sendable within is = omega (arith, announcement_fits caps Ipv4 w key sendable within is)
 first_fits caps Ipv6 w key sendable within is = omega (arith, announcement_fits caps Ipv6 w key sendable within is)
 
 -- a withdrawal of one prefix
 withdrawn_four : (prefixes : List ℕ) → length prefixes ≤ 9 → length (message 2 (body prefixes [] [])) ≤ 32
-withdrawn_four prefixes few = omega (arith, length-append prefixes (0 ∷ 0 ∷ []), length-append (prefixes ++ 0 ∷ 0 ∷ []) [])
+withdrawn_four prefixes few = omega (
+  arith,
+  length-append prefixes (0 ∷ 0 ∷ []),
+  length-append (prefixes ++ 0 ∷ 0 ∷ []) [],
+)
 
-withdrawn_six : (prefixes : List ℕ) → length prefixes ≤ 21 → length (message 2 (body [] (unreach_text prefixes) [])) ≤ 50
+withdrawn_six : (prefixes : List ℕ) → length prefixes ≤ 21
+    → length (message 2 (body [] (unreach_text prefixes) [])) ≤ 50
 withdrawn_six prefixes few =
     let value = length-optional 15 (family_text Ipv6 ++ prefixes) in
     let short = attr_short (length (family_text Ipv6 ++ prefixes)) (omega arith) in
     omega (arith, length-nlri (unreach_text prefixes) [])
 
 pub withdrawal_fits : WithdrawalFits
-withdrawal_fits caps Ipv4 key is = withdrawn_four (keys_text caps.ipv4_path (key ∷ [])) (keys_most caps.ipv4_path key Ipv4 is)
-withdrawal_fits caps Ipv6 key is = withdrawn_six (keys_text caps.ipv6_path (key ∷ [])) (keys_most caps.ipv6_path key Ipv6 is)
+withdrawal_fits caps Ipv4 key is = withdrawn_four (keys_text caps.ipv4_path (key ∷ []))
+    (keys_most caps.ipv4_path key Ipv4 is)
+withdrawal_fits caps Ipv6 key is = withdrawn_six (keys_text caps.ipv6_path (key ∷ []))
+    (keys_most caps.ipv6_path key Ipv6 is)
 
-pub first_gone_fits : (caps : Caps) (family : Family) (key : Key) → family_of_key key ≡ family → length (written caps (head.Gone family) (key ∷ [])) ≤ 4096
+pub first_gone_fits : (caps : Caps) (family : Family) (key : Key) → family_of_key key ≡ family
+    → length (written caps (head.Gone family) (key ∷ [])) ≤ 4096
 first_gone_fits caps Ipv4 key is = omega (arith, withdrawal_fits caps Ipv4 key is)
 first_gone_fits caps Ipv6 key is = omega (arith, withdrawal_fits caps Ipv6 key is)

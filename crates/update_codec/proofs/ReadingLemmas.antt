@@ -12,6 +12,8 @@ use Rattle.update_grammar.specs.Laws.{AreBytes}
 use Rattle.update_grammar.proofs.ReadUpdateLemmas.{effects_found}
 
 -- effects that are read are spelled
-pub read_is_spelled : (caps : Caps) (body : List ℕ) (answer : Result (List Effect) UpdateFault) → AreBytes body → Gives (λ effects. effects) update_blame answer (effects_in caps body) → IfOk answer (λ effects. Spells caps body effects)
+pub read_is_spelled : (caps : Caps) (body : List ℕ) (answer : Result (List Effect) UpdateFault) → AreBytes body
+    → Gives (λ effects. effects) update_blame answer (effects_in caps body)
+    → IfOk answer (λ effects. Spells caps body effects)
 read_is_spelled caps body (Ok effects) are gives = effects_found caps body effects are gives
 read_is_spelled caps body (Err fault) are gives = tt

@@ -13,7 +13,9 @@ use Rattle.update_grammar.specs.declared.effect.Reached.{Reached}
 use Rattle.update_grammar.specs.declared.fault.UpdateFault.{UpdateFault}
 use Rattle.update_grammar.specs.declared.fault.UpdateFault.TheVariants as fault
 use Rattle.update_grammar.specs.Steps.{◌>>=◌}
-use Rattle.update_grammar.specs.Update.{here_all, said_first, as_origin, as_path, as_next_hop, as_med, as_local_pref, as_atomic, as_aggregator, as_communities, as_originator, as_clusters, as_extended, as_large, as_reach, as_unreach}
+use Rattle.update_grammar.specs.Update.{here_all, said_first, as_origin, as_path, as_next_hop, as_med, as_local_pref}
+use Rattle.update_grammar.specs.Update.{as_atomic, as_aggregator, as_communities, as_originator, as_clusters}
+use Rattle.update_grammar.specs.Update.{as_extended, as_large, as_reach, as_unreach}
 use Rattle.update_codec.specs.declared.reading.matters.Matters.{Matters}
 use Rattle.update_codec.specs.declared.reading.matters.Told.{Told}
 
@@ -36,7 +38,8 @@ matters_of said = record {
 
 -- and what attributes carry themselves
 abbrev pub told_of : List Attr → Told
-told_of said = record { matters = matters_of said; reach = said_first as_reach said; unreach = said_first as_unreach said }
+told_of said =
+    record { matters = matters_of said; reach = said_first as_reach said; unreach = said_first as_unreach said }
 
 -- what is told with an attribute before the others
 abbrev pub with_attr : Attr → Told → Told

@@ -22,14 +22,15 @@ use update_grammar::{AttrFault, UpdateFault};
 /// The effects of the body of an UPDATE, or its first fault (RFC 4271, sections 4.3 and 6.3; RFC 4760; RFC 7911,
 /// section 3; RFC 6793: four bytes an AS number). `caps` are those of the session that it came by.
 ///
-/// The body's own prefixes are IPv4 unicast whatever the capabilities. An attribute of an unknown code does nothing, nor
-/// does an MP_REACH_NLRI or MP_UNREACH_NLRI of a family that isn't the session's. Offsets of faults count from the front
-/// of the body. The work and the memory that is taken grow with the length of the body.
+/// The body's own prefixes are IPv4 unicast whatever the capabilities. An attribute of an unknown code does nothing,
+/// nor does an MP_REACH_NLRI or MP_UNREACH_NLRI of a family that isn't the session's. Offsets of faults count from the
+/// front of the body. The work and the memory that is taken grow with the length of the body.
 pub fn read_update(alloc: Global, body: &[u8], caps: &Caps) -> Result<Effects, UpdateFault>
     // What is read is spelled.
     ensures found { IfOk result (λ effects. Spells caps.now body.now effects) }
     // What is spelled is read, unless memory runs out.
-    ensures only { (effects : List Effect) → Spells caps.now body.now effects → Gives (λ e. e) update_blame result (Ok effects) }
+    ensures only { (effects : List Effect) → Spells caps.now body.now effects
+        → Gives (λ e. e) update_blame result (Ok effects) }
     // Which fault it is.
     ensures exact { Gives (λ e. e) update_blame result (effects_in caps.now body.now) }
 {

@@ -6,7 +6,8 @@ ghost use Rattle.update_grammar.specs.Faults.{update_blame};
 ghost use Rattle.update_grammar.specs.ReadUpdate.{effects_of};
 ghost use Rattle.update_grammar.specs.Update.{gone_all, unreached};
 ghost use Rattle.update_codec.specs.Effects.{announced_effects};
-ghost use Rattle.update_codec.specs.Matters.{needed_in, attrs_in, reached_from, announced_from, all_from};
+ghost use Rattle.update_codec.specs.Matters.{needed_in, attrs_in};
+ghost use Rattle.update_codec.specs.Matters.{reached_from, announced_from, all_from};
 
 use super::matters::{Matters, Told};
 use crate::effects::{Announced, Effects};
@@ -43,7 +44,8 @@ fn announced_by(
     reach: Option<Option<Reached>>,
     keys: Keys,
 ) -> Result<Vec<Announced>, UpdateFault>
-    ensures { Gives (λ all. flat_map announced_effects all.items) update_blame result (all_from matters reach keys) }
+    ensures { Gives (λ all. flat_map announced_effects all.items) update_blame result
+        (all_from matters reach keys) }
 {
     if keys.len() == 0 {
         let reached = reached_by(matters, reach)?;
@@ -60,7 +62,8 @@ fn reached_besides(
     matters: &Matters,
     reach: Option<Option<Reached>>,
 ) -> Result<Option<Announced>, UpdateFault>
-    ensures { Gives (λ a. flat_map announced_effects (option_to_list a)) update_blame result (reached_from matters.now reach) }
+    ensures { Gives (λ a. flat_map announced_effects (option_to_list a)) update_blame result
+        (reached_from matters.now reach) }
 {
     if reach.is_none() {
         return Ok(None);
@@ -73,7 +76,8 @@ fn reached_by(
     mut matters: Matters,
     reach: Option<Option<Reached>>,
 ) -> Result<Option<Announced>, UpdateFault>
-    ensures { Gives (λ a. flat_map announced_effects (option_to_list a)) update_blame result (reached_from matters reach) }
+    ensures { Gives (λ a. flat_map announced_effects (option_to_list a)) update_blame result
+        (reached_from matters reach) }
 {
     let Some(reach) = reach else {
         return Ok(None);

@@ -28,7 +28,9 @@ pub struct Fields<'a> {
 #[tactic(auto, unfolding(update_grammar::specs::ReadUpdate::fields_in))]
 pub fn fields_in(body: &[u8]) -> Result<Fields<'_>, UpdateFault>
     ensures exact { Gives fields_view update_blame result (fields_in body.now) }
-    ensures whole { IfOk result (λ f. 4 + length f.withdrawn.now + length f.attributes.now + length f.announced.now ≡ length body.now) }
+    ensures whole { IfOk result (λ f.
+        4 + length f.withdrawn.now + length f.attributes.now + length f.announced.now
+        ≡ length body.now) }
 {
     let Some((withdrawn, rest)) = field_at(body) else {
         return Err(UpdateFault::BadLengths(0));
@@ -47,7 +49,8 @@ pub fn fields_in(body: &[u8]) -> Result<Fields<'_>, UpdateFault>
 #[tactic(auto, unfolding(update_grammar::specs::ReadUpdate::field_at))]
 fn field_at(bytes: &[u8]) -> Option<(&[u8], &[u8])>
     ensures exact { option_map (λ one. (one.0.now, one.1.now)) result ≡ field_at bytes.now }
-    ensures whole { IfSome result (λ one. 2 + length one.0.now + length one.1.now ≡ length bytes.now) }
+    ensures whole { IfSome result (λ one.
+        2 + length one.0.now + length one.1.now ≡ length bytes.now) }
 {
     let [_, _, rest @ ..] = bytes else {
         return None;

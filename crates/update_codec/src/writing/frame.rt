@@ -49,8 +49,9 @@ pub fn put_frame(out: &mut Message, len: usize)
 /// Makes the lengths of the attributes and of the message right, where no prefix stands before or behind them.
 pub fn close_attributes(out: &mut Message)
     requires { 23 ≤ length out.old.bytes }
-    ensures bytes { (total field : ℕ) → (attributes : List ℕ) → out.old.bytes ≡ unsealed total field attributes →
-        out.new.bytes ≡ message 2 (body [] attributes []) }
+    ensures bytes { (total field : ℕ) → (attributes : List ℕ)
+        → out.old.bytes ≡ unsealed total field attributes
+        → out.new.bytes ≡ message 2 (body [] attributes []) }
     ensures len { length out.new.bytes ≡ length out.old.bytes }
     ensures room { out.new.room ≡ out.old.room }
 {

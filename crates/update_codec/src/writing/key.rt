@@ -31,8 +31,9 @@ pub fn put_key(out: &mut Message, key: &Key, path: bool)
 pub fn insert_key(out: &mut Message, place: usize, key: &Key, path: bool)
     requires within { place ≤ length out.old.bytes }
     requires fits { HasRoom out.old (length (key_text path key.now)) }
-    ensures bytes { (before after : List ℕ) → length before ≡ place → out.old.bytes ≡ before ++ after →
-        out.new.bytes ≡ before ++ (key_text path key.now ++ after) }
+    ensures bytes { (before after : List ℕ) → length before ≡ place
+        → out.old.bytes ≡ before ++ after
+        → out.new.bytes ≡ before ++ (key_text path key.now ++ after) }
     ensures len { length out.new.bytes ≡ length out.old.bytes + length (key_text path key.now) }
     ensures room { out.new.room ≡ out.old.room }
 {

@@ -27,12 +27,15 @@ pub fn open_here(out: &mut Message, attrs: &WireAttrs, family: Family) -> bool
     requires short { All IsShort attrs.now.path }
 
     // It fits exactly where the message has no more bytes than the room, so it does within the limits of a route.
-    ensures fits { (caps : Caps) → IsTrue result ↔ (length (written caps (head.Here family attrs.now) []) ≤ out.old.room) }
+    ensures fits { (caps : Caps) →
+        IsTrue result ↔ (length (written caps (head.Here family attrs.now) []) ≤ out.old.room) }
     ensures size { IsTrue result ↔ (23 + attributes_size family attrs.now ≤ out.old.room) }
-    ensures within { IsSendable family attrs.now → IsWithinLimits (counts_sent attrs.now) → IsTrue result }
+    ensures within { IsSendable family attrs.now → IsWithinLimits (counts_sent attrs.now)
+        → IsTrue result }
 
     ensures len { OnTrue result (length out.new.bytes ≡ 23 + attributes_size family attrs.now) }
-    ensures ok { (caps : Caps) → OnTrue result (Appended out.old out.new (written caps (head.Here family attrs.now) [])) }
+    ensures ok { (caps : Caps) →
+        OnTrue result (Appended out.old out.new (written caps (head.Here family attrs.now) [])) }
     ensures open { (caps : Caps) → OnTrue result (IsOpenHere caps family out.new.bytes) }
     ensures refused { OnFalse result (out.new ≡ out.old) }
 {
@@ -61,8 +64,10 @@ pub fn open_gone(out: &mut Message, family: Family)
 /// doesn't fit.
 pub fn put_end_of_rib(out: &mut Message, family: Family) -> bool
     requires empty { out.old.bytes ≡ [] }
-    ensures fits { (caps : Caps) → IsTrue result ↔ HasRoom out.old (length (written caps (head.End family) [])) }
-    ensures ok { (caps : Caps) → OnTrue result (Appended out.old out.new (written caps (head.End family) [])) }
+    ensures fits { (caps : Caps) →
+        IsTrue result ↔ HasRoom out.old (length (written caps (head.End family) [])) }
+    ensures ok { (caps : Caps) →
+        OnTrue result (Appended out.old out.new (written caps (head.End family) [])) }
     ensures refused { OnFalse result (out.new ≡ out.old) }
 {
     if out.spare() < empty_len(family) {

@@ -10,9 +10,11 @@ returns-then-len-spare-clause-within c = λ sendable within.
 
 pub returns-clause-ok : goal.returns-clause-ok
 returns-clause-ok c = λ caps.
-    here_written _ _ _ c.attrs_len-len.result c.args.family c.args.attrs.now caps (omega (arith, c.attrs_len-len.ensures.value)) c.put_frame.ensures c.append_attrs.ensures
+    here_written _ _ _ c.attrs_len-len.result c.args.family c.args.attrs.now caps
+    (omega (arith, c.attrs_len-len.ensures.value)) c.put_frame.ensures c.append_attrs.ensures
 
 pub returns-clause-open : goal.returns-clause-open
 returns-clause-open c = λ caps.
     here_opened caps c.args.family c.args.attrs.now _ _ c.requires.empty
-    (here_written _ _ _ c.attrs_len-len.result c.args.family c.args.attrs.now caps (omega (arith, c.attrs_len-len.ensures.value)) c.put_frame.ensures c.append_attrs.ensures)
+    (here_written _ _ _ c.attrs_len-len.result c.args.family c.args.attrs.now caps
+    (omega (arith, c.attrs_len-len.ensures.value)) c.put_frame.ensures c.append_attrs.ensures)

@@ -6,4 +6,5 @@ use Rattle.update_codec.proofs.writing.prefixes.put_nlri.Goals as goal
 
 pub returns-clause-still_open : goal.returns-clause-still_open
 returns-clause-still_open c =
-    here_still_open c.args.caps.now Ipv4 c.args.key.now c.args.out.now.bytes _ c.requires.open (λ w keys is. grind (arith, common_steps))
+    here_still_open c.args.caps.now Ipv4 c.args.key.now c.args.out.now.bytes _ c.requires.open
+    (λ w keys is. grind (arith, common_steps))
