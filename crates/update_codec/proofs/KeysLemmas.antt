@@ -5,5 +5,6 @@ use Rattle.route_values.specs.declared.key.Key.{Key}
 use Rattle.update_grammar.specs.Prefixes.{key_text, keys_text}
 
 -- the texts of keys and of one more
-pub keys_more : (path : Bool) (keys : List Key) (key : Key) → keys_text path (keys ++ key ∷ []) ≡ keys_text path keys ++ key_text path key
+pub keys_more : (path : Bool) (keys : List Key) (key : Key)
+    → keys_text path (keys ++ key ∷ []) ≡ keys_text path keys ++ key_text path key
 keys_more path keys key = simp (flat_map-append, append-nil)

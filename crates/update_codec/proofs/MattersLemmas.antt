@@ -12,7 +12,8 @@ with_attrs [] t = t
 with_attrs (a ∷ others) t = with_attr a (with_attrs others t)
 
 -- the last of them goes first
-pub with_last : (said : List Attr) (last : Attr) (t : Told) → with_attrs (said ++ last ∷ []) t ≡ with_attrs said (with_attr last t)
+pub with_last : (said : List Attr) (last : Attr) (t : Told)
+    → with_attrs (said ++ last ∷ []) t ≡ with_attrs said (with_attr last t)
 with_last [] last t = refl
 with_last (a ∷ others) last t = ap (with_attr a) (with_last others last t)
 
@@ -39,7 +40,8 @@ all_said [] = refl
 all_said (a ∷ others) = ap (with_attr a) (all_said others) ∙ said_more a others
 
 -- where none was put
-pub started : (m : Matters) (rest said : List Attr) → m ≡ matters_of [] → rest ≡ said → with_attrs rest (record { matters = m; reach = None; unreach = None }) ≡ told_of said
+pub started : (m : Matters) (rest said : List Attr) → m ≡ matters_of [] → rest ≡ said
+    → with_attrs rest (record { matters = m; reach = None; unreach = None }) ≡ told_of said
 started m rest said none same = rw (none, same) (all_said said)
 
 -- where none is left

@@ -1,5 +1,5 @@
 -- What attributes say, each matter by itself.
-use Rattle.std.specs.Prelude.{List, [], ◌∷◌, true, false, Option, Some, None, unwrap_or, ok_or, Result, Ok}
+use Rattle.std.specs.Prelude.{List, [], ◌∷◌, ◌++◌, true, false, Option, Some, None, unwrap_or, ok_or, Result, Ok}
 use Rattle.route_values.specs.declared.addr.Addr.{Addr}
 use Rattle.route_values.specs.declared.addr.Addr.TheVariants.{V4}
 use Rattle.route_values.specs.declared.attrs.Origin.{Origin}
@@ -13,7 +13,9 @@ use Rattle.update_grammar.specs.declared.effect.Reached.{Reached}
 use Rattle.update_grammar.specs.declared.fault.UpdateFault.{UpdateFault}
 use Rattle.update_grammar.specs.declared.fault.UpdateFault.TheVariants as fault
 use Rattle.update_grammar.specs.Steps.{◌>>=◌}
-use Rattle.update_grammar.specs.Update.{here_all, said_first, as_origin, as_path, as_next_hop, as_med, as_local_pref, as_atomic, as_aggregator, as_communities, as_originator, as_clusters, as_extended, as_large, as_reach, as_unreach}
+use Rattle.update_grammar.specs.Update.{here_all, said_first, as_origin, as_path, as_next_hop, as_med, as_local_pref}
+use Rattle.update_grammar.specs.Update.{as_atomic, as_aggregator, as_communities, as_originator, as_clusters}
+use Rattle.update_grammar.specs.Update.{as_extended, as_large, as_reach, as_unreach}
 use Rattle.update_codec.specs.declared.reading.matters.Matters.{Matters}
 use Rattle.update_codec.specs.declared.reading.matters.Told.{Told}
 
@@ -36,7 +38,8 @@ matters_of said = record {
 
 -- and what attributes carry themselves
 abbrev pub told_of : List Attr → Told
-told_of said = record { matters = matters_of said; reach = said_first as_reach said; unreach = said_first as_unreach said }
+told_of said =
+    record { matters = matters_of said; reach = said_first as_reach said; unreach = said_first as_unreach said }
 
 -- what is told with an attribute before the others
 abbrev pub with_attr : Attr → Told → Told
@@ -95,3 +98,10 @@ announced_from m (key ∷ keys) = do
   both ← needed_in m
   hop ← ok_or m.next_hop (fault.MissingAttr 3)
   Ok (here_in m (V4 hop) (key ∷ keys) both)
+
+-- both, the MP_REACH_NLRI first
+abbrev pub all_from : Matters → Option (Option Reached) → List Key → Result (List Effect) UpdateFault
+all_from m reach keys = do
+  reached ← reached_from m reach
+  behind ← announced_from m keys
+  Ok (reached ++ behind)

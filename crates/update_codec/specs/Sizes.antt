@@ -1,13 +1,22 @@
--- How many bytes messages without prefixes take, and by how many attributes and withdrawals grow (RFC 4271, section
--- 4.3; RFC 4760, section 4).
-use Rattle.std.specs.Prelude.{ℕ, ◌+◌, nat_lt, Bool, false, if◌then◌else◌}
+-- How many bytes messages without prefixes and keys take, and by how many attributes and withdrawals grow (RFC 4271,
+-- section 4.3; RFC 4760, section 4).
+use Rattle.std.specs.Prelude.{ℕ, ◌+◌, nat_lt, Bool, false, length, if◌then◌else◌}
 use Rattle.route_values.specs.declared.addr.Family.{Family}
 use Rattle.route_values.specs.declared.addr.Family.TheVariants.{Ipv4, Ipv6}
+use Rattle.route_values.specs.declared.key.Key.{Key}
+use Rattle.route_values.specs.Caps.{Caps}
+use Rattle.route_values.specs.Key.{family_of_key}
+use Rattle.route_values.specs.Visible.{has_path}
+use Rattle.update_grammar.specs.Prefixes.{key_text}
 
 -- a header of 19 bytes and two lengths, and for IPv6 an MP_UNREACH_NLRI with its family alone
 abbrev pub empty_size : Family → ℕ
 empty_size Ipv4 = 23
 empty_size Ipv6 = 29
+
+-- how many bytes a key takes in a session
+abbrev pub key_size : Caps → Key → ℕ
+key_size caps key = length (key_text (has_path caps (family_of_key key)) key)
 
 -- whether a length passes a limit with so many more
 abbrev pub passes : ℕ → ℕ → ℕ → Bool

@@ -52,7 +52,8 @@ impl Effects {
 
     /// The keys that are withdrawn, and those that are announced.
     pub fn parts(&self) -> Parts<'_>
-        ensures { self.now ≡ gone_all result.gone.now ++ flat_map announced_effects result.here.now }
+        ensures { self.now
+            ≡ gone_all result.gone.now ++ flat_map announced_effects result.here.now }
     {
         Parts {
             gone: self.gone.as_slice(),

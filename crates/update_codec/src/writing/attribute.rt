@@ -19,6 +19,7 @@ use attr_codec::Message;
 use attr_codec::codes::{
     EXTENDED_HEAD_LEN, EXTENDED_LENGTH, HEAD_LEN, LEN_OFFSET, OPTIONAL, SHORT_MAX,
 };
+use attr_codec::numbers::{read_u16, u16_bytes};
 use route_values::Key;
 
 /// Where the flags of an attribute stand (RFC 4271, section 4.3).
@@ -42,14 +43,14 @@ pub struct Place {
 /// How many bytes the attribute at the front has with its flags, its code and its length.
 pub fn attribute_len(bytes: &[u8]) -> usize
     requires { 4 ≤ length bytes.now }
-    ensures value { (a : Raw) → (rest : List ℕ) → IsRaw a → bytes.now ≡ raw_text a ++ rest → result ≡ length (raw_text a) }
+    ensures value { (a : Raw) → (rest : List ℕ) → IsRaw a → bytes.now ≡ raw_text a ++ rest
+        → result ≡ length (raw_text a) }
     ensures some { 3 ≤ result }
 {
     if bytes[FLAGS] & EXTENDED_LENGTH == 0 {
         HEAD_LEN + usize::from(bytes[LEN_OFFSET])
     } else {
-        EXTENDED_HEAD_LEN
-            + usize::from(u16::from_be_bytes([bytes[LEN_OFFSET], bytes[LEN_OFFSET + 1]]))
+        EXTENDED_HEAD_LEN + usize::from(read_u16(&bytes[LEN_OFFSET..]))
     }
 }
 
@@ -68,12 +69,15 @@ pub fn put_last(out: &mut Message, place: Place, code: u8, key: &Key, path: bool
     requires some { place.start + 3 ≤ place.end }
     requires within { place.end ≤ length out.old.bytes }
     requires room { out.old.room ≤ 65535 }
-    requires fits { HasRoom out.old (attribute_growth (place.end - place.start) (length (key_text path key.now))) }
-    ensures bytes { (before value after : List ℕ) → length before ≡ place.start →
-        place.end ≡ place.start + length (raw_text (raw optional code value)) →
-        out.old.bytes ≡ before ++ (raw_text (raw optional code value) ++ after) →
-        out.new.bytes ≡ before ++ (raw_text (raw optional code (value ++ key_text path key.now)) ++ after) }
-    ensures len { length out.new.bytes ≡ length out.old.bytes + attribute_growth (place.end - place.start) (length (key_text path key.now)) }
+    requires fits { HasRoom out.old
+        (attribute_growth (place.end - place.start) (length (key_text path key.now))) }
+    ensures bytes { (before value after : List ℕ) → length before ≡ place.start
+        → place.end ≡ place.start + length (raw_text (raw optional code value))
+        → out.old.bytes ≡ before ++ (raw_text (raw optional code value) ++ after)
+        → out.new.bytes
+        ≡ before ++ (raw_text (raw optional code (value ++ key_text path key.now)) ++ after) }
+    ensures len { length out.new.bytes ≡ length out.old.bytes
+        + attribute_growth (place.end - place.start) (length (key_text path key.now)) }
     ensures room { out.new.room ≡ out.old.room }
 {
     let len = place.end - place.start;
@@ -98,7 +102,8 @@ fn outgrows(len: usize, more: usize) -> bool
 fn widen(out: &mut Message, start: usize)
     requires within { start ≤ length out.old.bytes }
     requires fits { HasRoom out.old 1 }
-    ensures bytes { (before after : List ℕ) → length before ≡ start → out.old.bytes ≡ before ++ after → out.new.bytes ≡ before ++ (0 ∷ after) }
+    ensures bytes { (before after : List ℕ) → length before ≡ start
+        → out.old.bytes ≡ before ++ after → out.new.bytes ≡ before ++ (0 ∷ after) }
     ensures len { length out.new.bytes ≡ length out.old.bytes + 1 }
     ensures room { out.new.room ≡ out.old.room }
 {
@@ -111,16 +116,18 @@ fn put_head(out: &mut Message, start: usize, code: u8, len: usize)
     requires some { 3 ≤ len }
     requires within { start + len ≤ length out.old.bytes }
     requires small { length out.old.bytes ≤ 65535 }
-    ensures bytes { (before head rest : List ℕ) → (value_len : ℕ) → length before ≡ start → length head ≡ head_size value_len →
-        len ≡ head_size value_len + value_len → out.old.bytes ≡ before ++ (head ++ rest) →
-        out.new.bytes ≡ before ++ (raw_head (flags_for optional value_len) code value_len ++ rest) }
+    ensures bytes { (before head rest : List ℕ) → (value_len : ℕ) → length before ≡ start
+        → length head ≡ head_size value_len → len ≡ head_size value_len + value_len
+        → out.old.bytes ≡ before ++ (head ++ rest)
+        → out.new.bytes
+        ≡ before ++ (raw_head (flags_for optional value_len) code value_len ++ rest) }
     ensures len { length out.new.bytes ≡ length out.old.bytes }
     ensures room { out.new.room ≡ out.old.room }
 {
     if len > SHORT_END {
         let value_len = (len - EXTENDED_HEAD_LEN) as u16;
         out.overwrite(start, &[OPTIONAL + EXTENDED_LENGTH, code]);
-        out.overwrite(start + LEN_OFFSET, &value_len.to_be_bytes());
+        out.overwrite(start + LEN_OFFSET, &u16_bytes(value_len));
     } else {
         out.overwrite(start, &[OPTIONAL, code, (len - HEAD_LEN) as u8]);
     }

@@ -6,19 +6,17 @@
 //! | 19     | length: 2 | length: 2  |            |               |            |
 //! +--------+-----------+------------+------------+---------------+------------+
 //! ```
-ghost use Rattle.std.specs.Prelude.{ℕ, ◌≡◌, ◌+◌, ◌<◌, ◌≤◌, ◌↔◌, [], ◌∷◌, ◌++◌, List, length, drop, IsTrue};
+ghost use Rattle.std.specs.Prelude.{ℕ, ◌≡◌, ◌+◌, ◌<◌, ◌≤◌, ◌++◌, List, length, drop, IsTrue};
 ghost use Rattle.std.specs.Bool.{OnTrue, OnFalse};
 ghost use Rattle.route_values.specs.declared.addr.Family.TheVariants.{Ipv6};
-ghost use Rattle.route_values.specs.declared.attrs.WireAttrs.{WireAttrs};
-ghost use Rattle.route_values.specs.declared.key.Key.{Key as RouteKey};
 ghost use Rattle.route_values.specs.Key.{family_of_key};
 ghost use Rattle.update_grammar.specs.Attributes.{Raw, IsRaw, raw_text, optional};
-ghost use Rattle.update_grammar.specs.Head as head;
 ghost use Rattle.update_grammar.specs.Prefixes.{key_text};
-ghost use Rattle.update_grammar.specs.Written.{written, raw};
+ghost use Rattle.update_grammar.specs.Written.{raw};
 ghost use Rattle.attr_codec.specs.Buffer.{HasRoom};
 ghost use Rattle.attr_codec.specs.Groups.{raws_text};
-ghost use Rattle.update_codec.specs.Reach.{IsOpenReach, HasReach};
+ghost use Rattle.update_codec.specs.Open.{IsOpenHere, AddsHere, TellsHereFits};
+ghost use Rattle.update_codec.specs.Reach.{HasReach};
 
 use super::attribute::{CODE, Place, attribute_len, growth, put_last};
 use super::frame::{FRAME_LEN, close_attributes};
@@ -33,16 +31,20 @@ use route_values::{Caps, Family, Key};
 /// where there is room for the prefix and one byte more.
 pub fn put_reach(out: &mut Message, caps: &Caps, key: &Key) -> bool
     requires family { family_of_key key.now ≡ Ipv6 }
-    requires open { IsOpenReach caps.now out.old.bytes }
-    ensures fits { (w : WireAttrs) → (keys : List RouteKey) → out.old.bytes ≡ written caps.now (head.Here Ipv6 w) keys →
-        IsTrue result ↔ (length (written caps.now (head.Here Ipv6 w) (keys ++ key.now ∷ [])) ≤ out.old.room) }
-    ensures enough { HasRoom out.old (length (key_text caps.now.ipv6_path key.now) + 1) → IsTrue result }
-    ensures ok { OnTrue result ((w : WireAttrs) → (keys : List RouteKey) →
-        out.old.bytes ≡ written caps.now (head.Here Ipv6 w) keys →
-        out.new.bytes ≡ written caps.now (head.Here Ipv6 w) (keys ++ key.now ∷ [])) }
-    ensures least { OnTrue result (length out.old.bytes + length (key_text caps.now.ipv6_path key.now) ≤ length out.new.bytes) }
-    ensures most { OnTrue result (length out.new.bytes ≤ length out.old.bytes + length (key_text caps.now.ipv6_path key.now) + 1) }
-    ensures still_open { IsOpenReach caps.now out.new.bytes }
+    requires open { IsOpenHere caps.now Ipv6 out.old.bytes }
+
+    // It fits exactly where the message with the prefix has no more bytes than the room.
+    ensures fits { TellsHereFits caps.now Ipv6 key.now out.old result }
+    ensures enough { HasRoom out.old (length (key_text caps.now.ipv6_path key.now) + 1)
+        → IsTrue result }
+
+    // What is left where it fits, and where it doesn't.
+    ensures ok { OnTrue result (AddsHere caps.now Ipv6 key.now out.old.bytes out.new.bytes) }
+    ensures least { OnTrue result (length out.old.bytes
+        + length (key_text caps.now.ipv6_path key.now) ≤ length out.new.bytes) }
+    ensures most { OnTrue result (length out.new.bytes
+        ≤ length out.old.bytes + length (key_text caps.now.ipv6_path key.now) + 1) }
+    ensures still_open { IsOpenHere caps.now Ipv6 out.new.bytes }
     ensures room { out.new.room ≡ out.old.room }
     ensures refused { OnFalse result (out.new ≡ out.old) }
 {
@@ -59,8 +61,10 @@ pub fn put_reach(out: &mut Message, caps: &Caps, key: &Key) -> bool
 // Where the MP_REACH_NLRI of a message stands.
 fn reach_place(bytes: &[u8]) -> Place
     requires { HasReach (drop 23 bytes.now) }
-    ensures start { (has : HasReach (drop 23 bytes.now)) → result.start ≡ 23 + length (raws_text has.raws) }
-    ensures end { (has : HasReach (drop 23 bytes.now)) → result.end ≡ result.start + length (raw_text (raw optional 14 has.value)) }
+    ensures start { (has : HasReach (drop 23 bytes.now))
+        → result.start ≡ 23 + length (raws_text has.raws) }
+    ensures end { (has : HasReach (drop 23 bytes.now))
+        → result.end ≡ result.start + length (raw_text (raw optional 14 has.value)) }
     ensures some { result.start + 3 ≤ result.end }
     ensures within { result.end ≤ length bytes.now }
 {
@@ -78,7 +82,8 @@ fn reach_place(bytes: &[u8]) -> Place
 // What stands behind the attribute at the front.
 fn behind_attribute(bytes: &[u8]) -> &[u8]
     requires { HasReach bytes.now }
-    ensures rest { (a : Raw) → (rest : List ℕ) → IsRaw a → bytes.now ≡ raw_text a ++ rest → result.now ≡ rest }
+    ensures rest { (a : Raw) → (rest : List ℕ) → IsRaw a → bytes.now ≡ raw_text a ++ rest
+        → result.now ≡ rest }
     ensures shorter { length result.now < length bytes.now }
 {
     let (_, rest) = bytes.split_at(attribute_len(bytes));

@@ -9,25 +9,23 @@
 //! | 19     | length: 2 | length: 2  | 1     | 1    | 1, or 2   | 3           |          |
 //! +--------+-----------+------------+-------+------+-----------+-------------+----------+
 //! ```
-ghost use Rattle.std.specs.Prelude.{ℕ, ◌≡◌, ◌+◌, ◌<◌, ◌≤◌, ◌↔◌, [], ◌∷◌, ◌++◌, List, length, replicate, IsTrue};
+ghost use Rattle.std.specs.Prelude.{ℕ, ◌≡◌, ◌+◌, ◌≤◌, ◌↔◌, [], ◌++◌, List, length, IsTrue};
 ghost use Rattle.std.specs.Bool.{OnTrue, OnFalse};
-ghost use Rattle.std.specs.Int.{w16, to_be_bytes};
 ghost use Rattle.route_values.specs.declared.addr.Family.TheVariants.{Ipv4, Ipv6};
-ghost use Rattle.route_values.specs.declared.key.Key.{Key as RouteKey};
 ghost use Rattle.route_values.specs.Key.{family_of_key};
-ghost use Rattle.route_values.specs.Visible.{has_path};
-ghost use Rattle.update_grammar.specs.Head as head;
 ghost use Rattle.update_grammar.specs.Prefixes.{key_text};
 ghost use Rattle.update_grammar.specs.Update.{body};
-ghost use Rattle.update_grammar.specs.Written.{written, message, unreach_text};
+ghost use Rattle.update_grammar.specs.Written.{message, unreach_text};
 ghost use Rattle.attr_codec.specs.Buffer.{HasRoom};
-ghost use Rattle.update_codec.specs.Sizes.{empty_size, unreach_growth};
+ghost use Rattle.update_codec.specs.Open.{IsOpenGone, AddsGone, TellsGoneFits};
+ghost use Rattle.update_codec.specs.Sizes.{key_size, unreach_growth};
 
 use super::attribute::{Place, growth, put_last};
 use super::frame::{FRAME_LEN, LEN_LEN, close_attributes};
 use super::key::{insert_key, key_len};
 use attr_codec::Message;
 use attr_codec::codes::MP_UNREACH_NLRI;
+use attr_codec::numbers::u16_bytes;
 use route_values::{Caps, Family, Key};
 
 /// Where the length of the withdrawn routes stands (RFC 4271, section 4.3).
@@ -37,17 +35,20 @@ const WITHDRAWN_LEN: usize = 19;
 /// where the session has path identifiers for the family. The length of an MP_UNREACH_NLRI has two bytes exactly where
 /// its value passes 255 bytes. Answers false, with `out` as it was, exactly where it doesn't fit.
 pub fn put_unreach(out: &mut Message, caps: &Caps, key: &Key) -> bool
-    requires open { empty_size (family_of_key key.now) ≤ length out.old.bytes }
-    ensures fits { (keys : List RouteKey) →
-        out.old.bytes ≡ written caps.now (head.Gone (family_of_key key.now)) keys →
-        IsTrue result ↔ (length (written caps.now (head.Gone (family_of_key key.now)) (keys ++ key.now ∷ [])) ≤ out.old.room) }
-    ensures size { IsTrue result ↔ HasRoom out.old (unreach_growth (family_of_key key.now) (length out.old.bytes)
-        (length (key_text (has_path caps.now (family_of_key key.now)) key.now))) }
-    ensures ok { OnTrue result ((keys : List RouteKey) →
-        out.old.bytes ≡ written caps.now (head.Gone (family_of_key key.now)) keys →
-        out.new.bytes ≡ written caps.now (head.Gone (family_of_key key.now)) (keys ++ key.now ∷ [])) }
-    ensures len { OnTrue result (length out.new.bytes ≡ length out.old.bytes + unreach_growth (family_of_key key.now)
-        (length out.old.bytes) (length (key_text (has_path caps.now (family_of_key key.now)) key.now))) }
+    requires open { IsOpenGone caps.now (family_of_key key.now) out.old.bytes }
+
+    // It fits exactly where the message with the prefix has no more bytes than the room.
+    ensures fits { TellsGoneFits caps.now (family_of_key key.now) key.now out.old result }
+    ensures size { IsTrue result ↔ HasRoom out.old (unreach_growth (family_of_key key.now)
+        (length out.old.bytes) (key_size caps.now key.now)) }
+
+    // What is left where it fits, and where it doesn't.
+    ensures ok { OnTrue result
+        (AddsGone caps.now (family_of_key key.now) key.now out.old.bytes out.new.bytes) }
+    ensures len { OnTrue result (length out.new.bytes ≡ length out.old.bytes
+        + unreach_growth (family_of_key key.now) (length out.old.bytes)
+        (key_size caps.now key.now)) }
+    ensures still_open { IsOpenGone caps.now (family_of_key key.now) out.new.bytes }
     ensures room { out.new.room ≡ out.old.room }
     ensures refused { OnFalse result (out.new ≡ out.old) }
 {
@@ -79,24 +80,28 @@ fn withdrawal_growth(family: Family, len: usize, more: usize) -> usize
 fn put_withdrawn(out: &mut Message, key: &Key, path: bool)
     requires open { 23 ≤ length out.old.bytes }
     requires fits { HasRoom out.old (length (key_text path key.now)) }
-    ensures bytes { (prefixes : List ℕ) → out.old.bytes ≡ message 2 (body prefixes [] []) →
-        out.new.bytes ≡ message 2 (body (prefixes ++ key_text path key.now) [] []) }
+    ensures bytes { (prefixes : List ℕ) → out.old.bytes ≡ message 2 (body prefixes [] [])
+        → out.new.bytes ≡ message 2 (body (prefixes ++ key_text path key.now) [] []) }
     ensures len { length out.new.bytes ≡ length out.old.bytes + length (key_text path key.now) }
     ensures room { out.new.room ≡ out.old.room }
 {
     let end = out.bytes().len();
     insert_key(out, end - LEN_LEN, key, path);
     let len = out.bytes().len();
-    out.overwrite(WITHDRAWN_LEN, &((len - FRAME_LEN) as u16).to_be_bytes());
+    out.overwrite(WITHDRAWN_LEN, &u16_bytes((len - FRAME_LEN) as u16));
     out.seal();
 }
 
 fn put_unreached(out: &mut Message, key: &Key, path: bool)
     requires open { 29 ≤ length out.old.bytes }
-    requires fits { HasRoom out.old (unreach_growth Ipv6 (length out.old.bytes) (length (key_text path key.now))) }
-    ensures bytes { (prefixes : List ℕ) → out.old.bytes ≡ message 2 (body [] (unreach_text prefixes) []) →
-        out.new.bytes ≡ message 2 (body [] (unreach_text (prefixes ++ key_text path key.now)) []) }
-    ensures len { length out.new.bytes ≡ length out.old.bytes + unreach_growth Ipv6 (length out.old.bytes) (length (key_text path key.now)) }
+    requires fits { HasRoom out.old
+        (unreach_growth Ipv6 (length out.old.bytes) (length (key_text path key.now))) }
+    ensures bytes { (prefixes : List ℕ)
+        → out.old.bytes ≡ message 2 (body [] (unreach_text prefixes) [])
+        → out.new.bytes
+        ≡ message 2 (body [] (unreach_text (prefixes ++ key_text path key.now)) []) }
+    ensures len { length out.new.bytes ≡ length out.old.bytes
+        + unreach_growth Ipv6 (length out.old.bytes) (length (key_text path key.now)) }
     ensures room { out.new.room ≡ out.old.room }
 {
     let place = Place {

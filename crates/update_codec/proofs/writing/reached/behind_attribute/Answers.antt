@@ -8,4 +8,5 @@ pub split_at-requires : goal.split_at-requires
 split_at-requires c = size_within c.args.bytes.now c.attribute_len.result c.requires c.attribute_len.ensures.value
 
 pub returns-clause-rest : goal.returns-clause-rest
-returns-clause-rest c = dropped_behind c.args.bytes.now _ c.attribute_len.result c.attribute_len.ensures.value c.split_at.ensures.back
+returns-clause-rest c = dropped_behind c.args.bytes.now _ c.attribute_len.result c.attribute_len.ensures.value
+    c.split_at.ensures.back
