@@ -1,9 +1,12 @@
 -- The lines of a stream, a part at a time.
-use Rattle.std.proofs.Common.{ℕ, ◌≡◌, ◌≢◌, ◌<◌, ◌≤◌, ◌+◌, ◌==◌, Bool, true, false, cond, List, [], ◌∷◌, ◌++◌, length, All, ap, sym, ◌∙◌, refl, inl, inr, arith, lt-ltb, le-ltb, append_assoc, append-nil, length-append}
+use Rattle.std.proofs.Common.{ℕ, ◌≡◌, ◌≢◌, ◌<◌, ◌≤◌, ◌==◌, Bool, true, false, cond, List, [], ◌∷◌, ◌++◌, length}
+use Rattle.std.proofs.Common.{All, ap, sym, ◌∙◌, refl, inl, inr, arith, lt-ltb, le-ltb, append_assoc}
+use Rattle.std.proofs.Common.{length-append}
 use Rattle.std.specs.List.{flat_map, AllByRecursion}
 use Rattle.std.proofs.lemmas.List.{flat_map_more}
 use Rattle.std.proofs.lemmas.Bool.Decides.{eqb_tells}
-use Rattle.text_forms.specs.Lines.{Line, Text, TooLong, onto_first, ended_parts, without_return, is_blank_part, line_of, line_or_none, lines, ended, IsPassedOver, IsFirstLine}
+use Rattle.text_forms.specs.Lines.{Line, Text, TooLong, onto_first, ended_parts, without_return, is_blank_part, line_of}
+use Rattle.text_forms.specs.Lines.{line_or_none, lines, ended, IsPassedOver, IsFirstLine}
 use Rattle.text_forms.proofs.CutLemmas.{Lacks, lacks_from_all}
 
 differs : (left right : ℕ) → left ≢ right → (left == right) ≡ false
@@ -93,8 +96,10 @@ pub behind_more : (bytes rest part after : List ℕ) → IsBehindParts bytes res
     → All (λ b. b ≢ 10) part → line_or_none part ≡ [] → IsBehindParts bytes after
 behind_more bytes rest part after behind is no_feed none = record {
   before = behind.before ++ part ∷ [];
-  passed_over = passed_more behind.before part behind.passed_over (record { no_feed = no_feed; blank = blank_from part none });
-  bytes_are = behind.bytes_are ∙ ap (λ more. flat_map ended behind.before ++ more) (is ∙ sym (append_assoc part (10 ∷ []) after))
+  passed_over = passed_more behind.before part behind.passed_over
+      (record { no_feed = no_feed; blank = blank_from part none });
+  bytes_are = behind.bytes_are ∙ ap (λ more. flat_map ended behind.before ++ more)
+      (is ∙ sym (append_assoc part (10 ∷ []) after))
       ∙ sym (append_assoc (flat_map ended behind.before) (ended part) after)
       ∙ ap (λ more. more ++ after) (flat_map_more ended [] behind.before part);
 }
@@ -137,4 +142,9 @@ pub first_shorter : (bytes : List ℕ) (line : Line) (rest : List ℕ) → IsFir
     → length rest < length bytes
 first_shorter bytes line rest first =
     let parts = flat_map ended first.before in
-    omega (arith, ap length first.bytes_are, length-append parts (first.part ++ 10 ∷ rest), length-append first.part (10 ∷ rest))
+    omega (
+      arith,
+      ap length first.bytes_are,
+      length-append parts (first.part ++ 10 ∷ rest),
+      length-append first.part (10 ∷ rest),
+    )

@@ -1,10 +1,11 @@
 -- The words of a line, a word at a time.
-use Rattle.std.proofs.Common.{ℕ, ◌≡◌, ◌<◌, ◌≤◌, Bool, true, false, not, cond, List, [], ◌∷◌, ◌++◌, length, take, drop, arith, ap, sym, ◌∙◌, refl, append_assoc, length-append}
+use Rattle.std.proofs.Common.{ℕ, ◌≡◌, ◌<◌, ◌≤◌, Bool, true, false, not, cond, List, [], ◌∷◌, ◌++◌, length, take, drop}
+use Rattle.std.proofs.Common.{arith, ap, sym, ◌∙◌, refl, append_assoc, length-append}
 use Rattle.std.proofs.lemmas.Bool.{false≢true}
 use Rattle.std.proofs.lemmas.List.{take-append-drop, length-take-le}
 use Rattle.std.proofs.lemmas.List.Elements.{All-append, All-from_recursion, All-nil, recursion_from_All}
 use Rattle.std.specs.List.{AllByRecursion}
-use Rattle.text_forms.specs.Blanks.{is_blank_byte, AreBlanks, HasNoBlank, IsBehindBlanks}
+use Rattle.text_forms.specs.Blanks.{is_blank_byte, HasNoBlank, IsBehindBlanks}
 use Rattle.text_forms.specs.Lines.{onto_first}
 use Rattle.text_forms.specs.Words.{begins_word, words_of, IsFirstWord}
 
@@ -62,8 +63,10 @@ behind_more text rest b after behind begins blank =
     let IsBlank : ℕ → Type 0 = λ byte. is_blank_byte byte ≡ true in
     record {
       before = behind.before ++ b ∷ [];
-      blanks = All-append IsBlank behind.before (b ∷ []) behind.blanks (All-from_recursion IsBlank (b ∷ []) (blank, tt));
-      text_is = behind.text_is ∙ ap (λ more. behind.before ++ more) begins ∙ sym (append_assoc behind.before (b ∷ []) after);
+      blanks = All-append IsBlank behind.before (b ∷ []) behind.blanks
+          (All-from_recursion IsBlank (b ∷ []) (blank, tt));
+      text_is = behind.text_is ∙ ap (λ more. behind.before ++ more) begins
+          ∙ sym (append_assoc behind.before (b ∷ []) after);
     }
 
 words_of-blanks : (before rest : List ℕ) → AllByRecursion (λ b. is_blank_byte b ≡ true) before
@@ -80,7 +83,8 @@ words_of-behind text rest behind =
 
 -- the part of a text before a blank, or before its end, is its first word
 pub first_of : (text rest : List ℕ) (len : ℕ) → IsBehindBlanks text rest → HasNoBlank (take len rest)
-    → begins_word (drop len rest) ≡ false → 0 < len → len ≤ length rest → IsFirstWord text (take len rest) (drop len rest)
+    → begins_word (drop len rest) ≡ false → 0 < len → len ≤ length rest
+    → IsFirstWord text (take len rest) (drop len rest)
 first_of text rest len behind no_blank ends some within = record {
   before = behind.before;
   blanks = behind.blanks;
@@ -93,11 +97,19 @@ first_of text rest len behind no_blank ends some within = record {
 -- so it is the first of the text's words
 pub words_of-first : (text word rest : List ℕ) → IsFirstWord text word rest → words_of text ≡ word ∷ words_of rest
 words_of-first text word rest first =
-    let behind : IsBehindBlanks text (word ++ rest) = record { before = first.before; blanks = first.blanks; text_is = first.text_is } in
-    words_of-behind text (word ++ rest) behind
-    ∙ word_then word rest (recursion_from_All (λ b. is_blank_byte b ≡ false) word first.no_blank) first.filled first.ends
+    ap words_of first.text_is
+    ∙ words_of-blanks first.before (word ++ rest)
+    (recursion_from_All (λ b. is_blank_byte b ≡ true) first.before first.blanks)
+    ∙ word_then word rest (recursion_from_All (λ b. is_blank_byte b ≡ false) word first.no_blank) first.filled
+    first.ends
 
 -- and what is behind it is shorter than the text
 pub first_shorter : (text word rest : List ℕ) → IsFirstWord text word rest → length rest < length text
 first_shorter text word rest first =
-    omega (arith, first.filled, ap length first.text_is, length-append first.before (word ++ rest), length-append word rest)
+    omega (
+      arith,
+      first.filled,
+      ap length first.text_is,
+      length-append first.before (word ++ rest),
+      length-append word rest,
+    )

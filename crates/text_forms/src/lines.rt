@@ -27,7 +27,8 @@ pub enum Line<'a> {
 /// line stands there whole: bytes behind the last line feed are no line yet.
 pub fn first_line(bytes: &[u8]) -> Option<(Line<'_>, &[u8])>
     ensures place { IfSome result (λ parts. IsFirstLine bytes.now (line_told parts.0) parts.1.now) }
-    ensures found { IfSome result (λ parts. lines bytes.now ≡ line_told parts.0 ∷ lines parts.1.now) }
+    ensures found { IfSome result
+        (λ parts. lines bytes.now ≡ line_told parts.0 ∷ lines parts.1.now) }
     ensures shorter { IfSome result (λ parts. length parts.1.now < length bytes.now) }
     ensures none { IfNone result (lines bytes.now ≡ []) }
 {

@@ -1,5 +1,6 @@
 //! The words of a line.
-ghost use Rattle.std.specs.Prelude.{◌≡◌, ◌<◌, ◌≤◌, [], ◌∷◌, true, false, map, take, drop, length, IfSome, IfNone, IfOk};
+ghost use Rattle.std.specs.Prelude.{◌≡◌, ◌<◌, ◌≤◌, [], ◌∷◌, true, false, map, take, drop, length};
+ghost use Rattle.std.specs.Prelude.{IfSome, IfNone, IfOk};
 ghost use Rattle.text_forms.specs.Blanks.{is_blank_byte, HasNoBlank, IsBehindBlanks};
 ghost use Rattle.text_forms.specs.Words.{begins_word, words_of, IsFirstWord};
 
@@ -16,7 +17,8 @@ pub fn is_blank(byte: u8) -> bool
 /// The first word, and all that follows it; None where the text has no word.
 pub fn first_word(text: &[u8]) -> Option<(&[u8], &[u8])>
     ensures place { IfSome result (λ parts. IsFirstWord text.now parts.0.now parts.1.now) }
-    ensures found { IfSome result (λ parts. words_of text.now ≡ parts.0.now ∷ words_of parts.1.now) }
+    ensures found { IfSome result
+        (λ parts. words_of text.now ≡ parts.0.now ∷ words_of parts.1.now) }
     ensures shorter { IfSome result (λ parts. length parts.1.now < length text.now) }
     ensures none { IfNone result (words_of text.now ≡ []) }
 {

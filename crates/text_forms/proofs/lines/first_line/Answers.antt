@@ -1,7 +1,8 @@
-use Rattle.std.proofs.Common.{sym, ◌∙◌, arith}
+use Rattle.std.proofs.Common.{sym, ◌∙◌}
 use Rattle.text_forms.specs.LineTold.{line_told}
 use Rattle.text_forms.proofs.CutLemmas.{lacks_from_all}
-use Rattle.text_forms.proofs.LineLemmas.{behind_none, behind_more, first_of, lines-first, first_shorter, lines-behind, lines-none}
+use Rattle.text_forms.proofs.LineLemmas.{behind_none, behind_more, first_of, lines-first, first_shorter, lines-behind}
+use Rattle.text_forms.proofs.LineLemmas.{lines-none}
 use Rattle.text_forms.proofs.lines.first_line.Goals as goal
 
 pub parts-init : goal.parts-init
