@@ -23,7 +23,7 @@ messages_of side (prefix, Some hop) = message_of side prefix hop ∷ []
 messages_of side (prefix, None) = []
 
 -- the marker spells no effect
-spells_marker : EndIsSpelled Ipv4 → SpellAll (marker ∷ []) []
+pub spells_marker : EndIsSpelled Ipv4 → SpellAll (marker ∷ []) []
 spells_marker law = ([], [], refl, law plain_caps, refl)
 
 spell_slot : (side : Side) (prefix : Block) (hop : Option ℕ) (rest : List (List ℕ)) (effects : List Effect) → IsSpelledSlot side (prefix, hop) → SpellAll rest effects

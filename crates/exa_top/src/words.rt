@@ -24,9 +24,7 @@ pub fn text_command(words: &[&str]) -> Option<TextCommand>
     ensures found { IfSome result (λ spelled. IsCommand (map (λ w. w.now) words.now) spelled) }
     ensures none { IfNone result ((spelled : Spelled) → IsCommand (map (λ w. w.now) words.now) spelled → ⊥) }
 {
-    let Some((name, operands)) = words.split_first() else {
-        return None;
-    };
+    let (name, operands) = words.split_first()?;
     if is(name.as_bytes(), b"encode") {
         return encode_of(operands);
     }
@@ -57,15 +55,9 @@ fn side_of(operands: &[&str]) -> Option<Side>
     ensures found { IfSome result (λ side. IsEncode (codes "encode" ∷ map (λ w. w.now) operands.now) side) }
     ensures none { IfNone result ((side : Ends) → IsEncode (codes "encode" ∷ map (λ w. w.now) operands.now) side → ⊥) }
 {
-    let Some((local_as, others)) = operands.split_first() else {
-        return None;
-    };
-    let Some((peer_as, others)) = others.split_first() else {
-        return None;
-    };
-    let Some((local, others)) = others.split_first() else {
-        return None;
-    };
+    let (local_as, others) = operands.split_first()?;
+    let (peer_as, others) = others.split_first()?;
+    let (local, others) = others.split_first()?;
     if !others.is_empty() {
         return None;
     }
@@ -76,15 +68,9 @@ fn side_from(local_as: &str, peer_as: &str, local: &str) -> Option<Side>
     ensures found { IfSome result (λ side. IsEncode (codes "encode" ∷ local_as.now ∷ peer_as.now ∷ local.now ∷ []) side) }
     ensures none { IfNone result ((side : Ends) → IsEncode (codes "encode" ∷ local_as.now ∷ peer_as.now ∷ local.now ∷ []) side → ⊥) }
 {
-    let Some(local_as) = asn(local_as.as_bytes()) else {
-        return None;
-    };
-    let Some(peer_as) = asn(peer_as.as_bytes()) else {
-        return None;
-    };
-    let Some(local) = ipv4(local.as_bytes()) else {
-        return None;
-    };
+    let local_as = asn(local_as.as_bytes())?;
+    let peer_as = asn(peer_as.as_bytes())?;
+    let local = ipv4(local.as_bytes())?;
     Some(Side {
         local: Addr::V4(local),
         local_as,
