@@ -1,5 +1,5 @@
 -- Told bytes grow and shrink piece by piece.
-use Rattle.std.proofs.Common.{ℕ, Result, Ok, Err, OnErr, List, ◌++◌, ◌∙◌, sym, ap, append_assoc}
+use Rattle.std.proofs.Common.{ℕ, List, ◌++◌, ◌∙◌, sym, ap, append_assoc}
 use Rattle.std.specs.declared.option.Option.{Option}
 use Rattle.std.specs.declared.option.Option.TheVariants.{Some, None}
 use Rattle.outside.specs.Told.{Grows, Shrinks}
@@ -25,8 +25,3 @@ shrinks_more (Some was) None new first second before after = absurd before
 shrinks_more (Some was) (Some then) None first second before after = absurd after
 shrinks_more (Some was) (Some then) (Some now) first second before after =
     before ∙ ap (λ bytes. first ++ bytes) after ∙ sym (append_assoc first second now)
-
--- a fact that holds anyway holds after an error
-pub on_err : {T E : Type 0} (answer : Result T E) (P : Type 0) → P → OnErr answer P
-on_err (Ok value) P holds = tt
-on_err (Err error) P holds = holds

@@ -7,3 +7,4 @@ pub mod Held
 pub mod Store
 pub mod Listed
 pub mod Seen
+pub mod Lent

@@ -1,22 +1,35 @@
 -- What the calls of an object that opens files do.
-use Rattle.std.specs.Prelude.{ℕ, ◌≡◌, ◌<◌, ◌≤◌, List, Bool, false, ⊤}
+use Rattle.std.specs.Prelude.{ℕ, ◌≡◌, ◌<◌, ◌≤◌, List, length, Bool, false, ⊤}
 use Rattle.std.specs.declared.option.Option.{Option}
 use Rattle.std.specs.declared.option.Option.TheVariants.{Some, None}
 use Rattle.outside.specs.declared.files.Opened.{Opened}
 use Rattle.outside.specs.declared.files.Opened.TheVariants as opened
-use Rattle.outside.specs.Told.{GaveNothing, Rose}
+use Rattle.outside.specs.Told.{GaveNothing, CountsOne, counted_with}
 
--- taking a source back counts exactly where the source has faults
-pub record CountsSource (before now faults : ℕ) : Type 0 where
-  pub later : before ≤ now
-  pub faulty : 0 < faults → Rose before now
-  pub sound : faults ≡ 0 → now ≡ before
+-- taking a source back counts one fault where the source has faults, and else leaves the count
+abbrev pub CountsSource : ℕ → ℕ → ℕ → Type 0
+CountsSource before now faults = (now ≡ counted_with faults before) × (before ≤ now)
+
+-- where the content by path is told, that of a path is these bytes
+abbrev pub IsContent : Option (List ℕ → List ℕ) → List ℕ → List ℕ → Type 0
+IsContent None path bytes = ⊤
+IsContent (Some content) path bytes = content path ≡ bytes
+
+-- where the content by path is told, that of a path has more bytes than a limit
+abbrev pub IsLonger : Option (List ℕ → List ℕ) → List ℕ → ℕ → Type 0
+IsLonger None path limit = ⊤
+IsLonger (Some content) path limit = limit < length (content path)
+
+-- where the content by path is told, that of a path has at most as many bytes as a limit
+abbrev pub IsWithin : Option (List ℕ → List ℕ) → List ℕ → ℕ → Type 0
+IsWithin None path limit = ⊤
+IsWithin (Some content) path limit = length (content path) ≤ limit
 
 module _ {S : Type 0} where
-  -- opening fails only where the count rose, and else leaves the count
+  -- failing to open counts one fault, and opening leaves the count
   abbrev pub OpenCounts : ℕ → ℕ → Opened S → Type 0
   OpenCounts before now (opened.Open source) = now ≡ before
-  OpenCounts before now opened.Failed = (before ≤ now) × Rose before now
+  OpenCounts before now opened.Failed = CountsOne before now
 
   -- a file was opened
   abbrev pub IsOpen : Opened S → Type 0

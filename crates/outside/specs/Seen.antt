@@ -15,6 +15,11 @@ pub record SinkSeen : Type 0 where
   pub taken : Option (List ℕ)
   pub faults : ℕ
 
+-- the content by path of what opens files, where it tells it, and how often it has failed
+pub record FilesSeen : Type 0 where
+  pub content : Option (List ℕ → List ℕ)
+  pub faults : ℕ
+
 module _ {D : Type 0} where
   -- what is seen of a source, by what it tells
   abbrev pub source_seen : (D → Option (List ℕ)) → (D → Option (List ℕ)) → (D → Bool) → (D → ℕ) → D → SourceSeen
@@ -24,3 +29,7 @@ module _ {D : Type 0} where
   -- what is seen of a sink, by what it tells
   abbrev pub sink_seen : (D → Option (List ℕ)) → (D → ℕ) → D → SinkSeen
   sink_seen taken faults sink = record { taken = taken sink; faults = faults sink }
+
+  -- what is seen of what opens files, by what it tells
+  abbrev pub files_seen : (D → Option (List ℕ → List ℕ)) → (D → ℕ) → D → FilesSeen
+  files_seen content faults files = record { content = content files; faults = faults files }

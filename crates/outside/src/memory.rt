@@ -4,6 +4,7 @@
 
 mod fault_plan;
 pub mod held;
+mod lent;
 pub mod listed_files;
 pub mod listed_sink;
 pub mod listed_source;

@@ -136,7 +136,7 @@ fn a_sink_without_room_takes_on_and_tells_nothing(rt: HostRuntime) -> Result<(),
     Ok(())
 }
 
-const HELD: [HeldFile<'static>; 3] = [
+const HELD: [HeldFile<'static>; 4] = [
     HeldFile {
         path: "a.conf",
         content: b"one",
@@ -148,6 +148,10 @@ const HELD: [HeldFile<'static>; 3] = [
     HeldFile {
         path: "a.conf",
         content: b"three",
+    },
+    HeldFile {
+        path: "a.conf ",
+        content: b"behind a blank",
     },
 ];
 
@@ -171,6 +175,8 @@ fn a_file_is_opened_by_its_path(rt: HostRuntime) -> Result<(), Fail> {
     for (path, wanted) in [
         ("a.conf", "one|"),
         ("b.conf", "two|"),
+        ("a.conf ", "behind a blank|"),
+        (" a.conf", ""),
         ("c.conf", ""),
         ("", ""),
     ] {
@@ -187,6 +193,11 @@ fn a_file_is_opened_by_its_path(rt: HostRuntime) -> Result<(), Fail> {
         );
     }
     assert_eq!(rt; listed.faults(), 0);
+    for out in [1, 2] {
+        assert!(rt; matches!(sure.open("a.conf"), Opened::Open(_)));
+        assert!(rt; matches!(listed.open("a.conf"), Opened::Open(_)));
+        assert_eq!(rt; (sure.lent(), listed.lent()), (Some(out), Some(out)));
+    }
     Ok(())
 }
 
@@ -198,5 +209,77 @@ fn faults_of_opening_and_of_what_was_opened_count(rt: HostRuntime) -> Result<(),
         assert_eq!(rt; opened(alloc, &mut files, "a.conf")?.as_str(), wanted);
         assert_eq!(rt; files.faults(), faults, "{wanted}");
     }
+    Ok(())
+}
+
+#[test]
+fn a_file_is_read_whole_where_it_has_at_most_the_limit(rt: HostRuntime) -> Result<(), Fail> {
+    let alloc = rt.alloc();
+    let table: [(&str, usize, Result<&[u8], Unread>); 8] = [
+        ("b.conf", 3, Ok(b"two")),
+        ("b.conf", 2, Err(Unread::Long)),
+        ("b.conf", 0, Err(Unread::Long)),
+        ("b.conf", usize::MAX, Ok(b"two")),
+        ("a.conf", 5, Ok(b"one")),
+        ("a.conf ", 14, Ok(b"behind a blank")),
+        ("c.conf", 0, Ok(b"")),
+        ("c.conf", 9, Ok(b"")),
+    ];
+    for (path, limit, wanted) in table {
+        let mut files = MemoryFiles::new(&HELD, &[], &[]);
+        let bytes = read_file(alloc, &mut files, path, limit);
+        let answer = bytes
+            .as_ref()
+            .map(|bytes| bytes.as_slice())
+            .map_err(|error| *error);
+        assert_eq!(rt; answer, wanted, "{path}, {limit}");
+        assert_eq!(rt; files.faults(), 0, "{path}, {limit}");
+        assert_eq!(rt; files.lent(), Some(0), "{path}, {limit}");
+    }
+    Ok(())
+}
+
+#[test]
+fn a_file_that_fails_counts_once_and_the_next_reading_goes_on(rt: HostRuntime) -> Result<(), Fail> {
+    let alloc = rt.alloc();
+    let table: [(&[u64], &[u64], &str); 4] = [
+        (&[0], &[], "it isn't opened"),
+        (&[0], &[0], "neither is it read"),
+        (&[], &[0], "its first read fails"),
+        (&[], &[1], "the read behind its bytes fails"),
+    ];
+    for (failing, failing_reads, what) in table {
+        let mut files = MemoryFiles::new(&HELD, failing, failing_reads);
+        let answer = read_file(alloc, &mut files, "b.conf", 100).err();
+        assert_eq!(rt; answer, Some(Unread::Fault), "{what}");
+        assert_eq!(rt; files.faults(), 1, "{what}");
+        assert_eq!(rt; files.lent(), Some(0), "{what}");
+    }
+    let mut files = MemoryFiles::new(&HELD, &[0, 2], &[]);
+    assert!(rt; read_file(alloc, &mut files, "b.conf", 3).is_err());
+    assert_eq!(rt;
+        read_file(alloc, &mut files, "b.conf", 3)?.as_slice(),
+        b"two".as_slice()
+    );
+    assert!(rt; read_file(alloc, &mut files, "b.conf", 3).is_err());
+    assert_eq!(rt; files.faults(), 2);
+    Ok(())
+}
+
+#[test]
+fn two_mebibytes_are_read_and_written(rt: HostRuntime) -> Result<(), Fail> {
+    let alloc = rt.alloc();
+    let content = vec![in alloc; 7; 2 << 20]?;
+    let bytes = read_all(alloc, &mut SureSource::new(&content), 1 << 40)?;
+    assert!(rt; bytes.as_slice() == content.as_slice());
+    let held = [HeldFile {
+        path: "large",
+        content: &content,
+    }];
+    let bytes = read_file(alloc, &mut SureFiles::new(&held), "large", 2 << 20)?;
+    assert!(rt; bytes.as_slice() == content.as_slice());
+    let mut sink = SureSink::in_steps(alloc, 2 << 20, 65_536)?;
+    write_all(&mut sink, &content)?;
+    assert!(rt; sink.bytes() == Some(content.as_slice()));
     Ok(())
 }

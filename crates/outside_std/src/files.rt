@@ -9,7 +9,7 @@ use std::fs::File;
 /// An opened file.
 pub type FileSource = ReaderSource<File>;
 
-/// Opens the system's files for reading. It tells no content.
+/// Opens the system's files for reading. It tells no content, nor how many sources are out.
 #[derive(Drop)]
 pub struct StdFiles<'a, R> {
     rt: &'a R,
@@ -45,6 +45,8 @@ where
     ghost content = { λ _. None };
 
     ghost faults = { λ f. f.faults };
+
+    ghost lent = { λ _. None };
 
     fn open(&mut self, path: &str) -> Opened<ReaderSource<R::File>> {
         match File::open(self.rt, path) {

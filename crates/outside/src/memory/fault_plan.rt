@@ -1,6 +1,7 @@
 //! Which calls of an object in memory fail.
 ghost use Rattle.std.specs.Prelude.{◌≡◌, ◌≤◌};
-ghost use Rattle.outside.specs.Plan.{Plan, counted, strikes_now, after_call};
+ghost use Rattle.outside.specs.Plan.{Plan, strikes_now, after_call};
+ghost use Rattle.outside.specs.Told.{counted};
 
 use std::marker::Model;
 

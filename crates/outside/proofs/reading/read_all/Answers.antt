@@ -1,6 +1,6 @@
 use Rattle.std.proofs.Common.{ℕ, ◌≡◌, ◌+◌, ◌≤◌, List, ◌++◌, length, take, arith}
 use Rattle.std.proofs.Common.{length-append, length-take}
-use Rattle.outside.proofs.ToldLemmas.{grows_more, shrinks_more, on_err}
+use Rattle.outside.proofs.ToldLemmas.{grows_more, shrinks_more}
 use Rattle.outside.proofs.reading.read_all.Goals as goal
 
 -- what fits the room in the buffer stays within the limit
@@ -21,8 +21,7 @@ returns-in_err-extend_from_slice-in-Got-clause-part g c =
     let room = c.min-room.result in
     let within : length before + room ≤ c.args.limit =
     omega (arith, c.pieces.bytes.ok.0, c.min-room.ensures, c.len-in-pieces.ensures) in
-    let fits = c.in-Got.ensures.bytes.1 in
-    on_err c.from_residual.result _ (
+    let fits = c.in-Got.ensures.bytes.1 in (
       before ++ take count into,
       grows_more _ _ _ _ _ c.pieces.invariant.given c.in-Got.ensures.bytes.2,
       shrinks_more _ _ _ _ _ c.pieces.invariant.left c.in-Got.ensures.left,

@@ -13,7 +13,7 @@ rests-preserved g c =
       within = omega (arith, bytes.1, length-drop written piece);
       taken = rw (take-add written c.in-Wrote.count piece)
           (grows_more _ _ _ _ _ c.rests.invariant.taken (rw (take_rest piece written) at bytes.2));
-      same = c.in-Wrote.ensures.cause.same (λ failed. cc) ∙ c.rests.invariant.same;
+      same = c.in-Wrote.ensures.cause ∙ c.rests.invariant.same;
     }
 
 pub returns-in-Failed-clause-err : goal.returns-in-Failed-clause-err
@@ -23,5 +23,6 @@ returns-in-Failed-clause-err g c =
       take written piece,
       drop written piece,
       rw take-append-drop,
+      omega (arith, length-drop written piece),
       rw append-nil at (grows_more _ _ _ _ _ c.rests.invariant.taken c.in-Failed.ensures.bytes),
     )
