@@ -3,7 +3,7 @@ use Rattle.std.proofs.Common.{ℕ, ◌≡◌, ◌+◌, ◌^◌, ◌<◌, ◌≤�
 use Rattle.route_values.specs.declared.addr.Family.TheVariants.{Ipv4}
 use Rattle.route_values.specs.declared.settings.Side.{Side}
 use Rattle.outside.specs.Seen.{SourceSeen, SinkSeen}
-use Rattle.outside.specs.Told.{Grows, Shrinks, Rose}
+use Rattle.outside.specs.Told.{Grows, Shrinks, CountsOne, Rose}
 use Rattle.update_grammar.specs.Laws.{EndIsSpelled}
 use Rattle.exa_top.specs.declared.status.Status.{Status}
 use Rattle.exa_top.specs.declared.status.Status.TheVariants as status
@@ -138,13 +138,13 @@ no_memory law side source source' sink input part same = record {
 }
 
 -- `encode` whose input failed
-pub read_fault : EndIsSpelled Ipv4 → (side : Side) (source source' : SourceSeen) (sink : SinkSeen) (input : List ℕ) → ReadPart source source' input → Rose source.faults source'.faults
+pub read_fault : EndIsSpelled Ipv4 → (side : Side) (source source' : SourceSeen) (sink : SinkSeen) (input : List ℕ) → ReadPart source source' input → CountsOne source.faults source'.faults
     → Answered (Encode side) source source' sink sink status.ReadFault
-read_fault law side source source' sink input part rose = record {
+read_fault law side source source' sink input part counts = record {
   spelled = λ is. absurd (cc);
   ok = λ is. absurd (cc);
   broke = λ other. nothing_written law side source source' sink input part;
-  read = λ is. rose;
+  read = λ is. counts;
   read_same = λ other. absurd (other refl);
   write = λ is. absurd (cc);
   write_same = λ other. refl;
@@ -167,12 +167,16 @@ input_long law side source source' sink input part same gave = record {
   over = λ from. inl refl;
 }
 
+-- a count that one fault was added to has risen
+rises : {before now : ℕ} → CountsOne before now → Rose before now
+rises counts = omega (arith, counts.0)
+
 -- a command that was run to its end, but for want of memory
 pub completes : (command : TextCommand) (source source' : SourceSeen) (sink sink' : SinkSeen) (ends : Status) → Answered command source source' sink sink' ends
     → (GaveLimit input_limit source source' → ⊥) → ¬ Rose source.faults source'.faults → ¬ Rose sink.faults sink'.faults → (ends ≡ status.Ok) ⊎ (ends ≡ status.NoMemory)
 completes command source source' sink sink' status.Ok answered short read_well wrote_well = inl refl
 completes command source source' sink sink' status.Usage answered short read_well wrote_well = absurd (answered.spelled refl)
-completes command source source' sink sink' status.ReadFault answered short read_well wrote_well = absurd (read_well (answered.read refl))
-completes command source source' sink sink' status.WriteFault answered short read_well wrote_well = absurd (wrote_well (answered.write refl))
+completes command source source' sink sink' status.ReadFault answered short read_well wrote_well = absurd (read_well (rises (answered.read refl)))
+completes command source source' sink sink' status.WriteFault answered short read_well wrote_well = absurd (wrote_well (rises (answered.write refl)))
 completes command source source' sink sink' status.NoMemory answered short read_well wrote_well = inr refl
 completes command source source' sink sink' status.InputLong answered short read_well wrote_well = absurd (short (answered.long refl))

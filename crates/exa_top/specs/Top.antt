@@ -5,7 +5,7 @@ use Rattle.std.specs.List.{flat_map}
 use Rattle.std.specs.declared.option.Option.{Option}
 use Rattle.std.specs.declared.option.Option.TheVariants.{Some, None}
 use Rattle.outside.specs.Seen.{SourceSeen, SinkSeen}
-use Rattle.outside.specs.Told.{Grows, Shrinks, AreLeft, AreLeftFrom, Rose}
+use Rattle.outside.specs.Told.{Grows, Shrinks, AreLeft, AreLeftFrom, CountsOne}
 use Rattle.exa_top.specs.declared.status.Status.{Status}
 use Rattle.exa_top.specs.declared.status.Status.TheVariants as status
 use Rattle.exa_top.specs.declared.words.TextCommand.{TextCommand}
@@ -98,9 +98,9 @@ pub record Answered (command : TextCommand) (source source' : SourceSeen) (sink 
   pub spelled : ¬ (ends ≡ status.Usage)
   pub ok : ends ≡ status.Ok → Ran command source source' sink sink'
   pub broke : ¬ (ends ≡ status.Ok) → Broke command source source' sink sink'
-  pub read : ends ≡ status.ReadFault → Rose source.faults source'.faults
+  pub read : ends ≡ status.ReadFault → CountsOne source.faults source'.faults
   pub read_same : ¬ (ends ≡ status.ReadFault) → source'.faults ≡ source.faults
-  pub write : ends ≡ status.WriteFault → Rose sink.faults sink'.faults
+  pub write : ends ≡ status.WriteFault → CountsOne sink.faults sink'.faults
   pub write_same : ¬ (ends ≡ status.WriteFault) → sink'.faults ≡ sink.faults
   pub long : ends ≡ status.InputLong → GaveLimit input_limit source source'
   pub over : GaveFrom input_limit source.given source'.given → IsOverrun ends
@@ -125,5 +125,5 @@ TookPart taken taken' text = (part : List ℕ) × (rest : List ℕ) × (text ≡
 -- a text was written whole, or its front, and then the sink failed
 abbrev pub Wrote : List ℕ → SinkSeen → SinkSeen → Status → Type 0
 Wrote text sink sink' status.Ok = Grows sink.taken sink'.taken text × (sink'.faults ≡ sink.faults)
-Wrote text sink sink' status.WriteFault = TookPart sink.taken sink'.taken text × Rose sink.faults sink'.faults
+Wrote text sink sink' status.WriteFault = TookPart sink.taken sink'.taken text × CountsOne sink.faults sink'.faults
 Wrote text sink sink' _ = ⊥

@@ -6,7 +6,7 @@ ghost use Rattle.exa_top.specs.Words.{IsCommand};
 ghost use Rattle.exa_top.specs.declared.words.TextCommand.{TextCommand as Spelled};
 ghost use Rattle.exa_top.specs.declared.words.TextCommand.TheVariants.{Encode};
 ghost use Rattle.outside.specs.Seen.{source_seen, sink_seen};
-ghost use Rattle.outside.specs.Told.{Rose};
+ghost use Rattle.outside.specs.Told.{CountsOne, Rose};
 
 use crate::encoding::encode_all;
 use crate::status::Status;
@@ -62,10 +62,12 @@ pub fn exabgp_text<F: Files, S: Source, K: Sink>(
         (sink_seen K.taken K.faults output.old) (sink_seen K.taken K.faults output.new) }
     ensures files { files.new ≡ files.old }
 
-    // A fault is a status, and a status that is no fault left the count.
-    ensures read { result ≡ Status.ReadFault → Rose (S.faults input.old) (S.faults input.new) }
+    // A fault's status counts one fault, and any other leaves the count.
+    ensures read { result ≡ Status.ReadFault
+        → CountsOne (S.faults input.old) (S.faults input.new) }
     ensures read_same { ¬ (result ≡ Status.ReadFault) → S.faults input.new ≡ S.faults input.old }
-    ensures write { result ≡ Status.WriteFault → Rose (K.faults output.old) (K.faults output.new) }
+    ensures write { result ≡ Status.WriteFault
+        → CountsOne (K.faults output.old) (K.faults output.new) }
     ensures write_same { ¬ (result ≡ Status.WriteFault)
         → K.faults output.new ≡ K.faults output.old }
 

@@ -1,7 +1,7 @@
 use Rattle.std.proofs.Common.{List, ℕ, Err, ap, sym, subst}
 use Rattle.route_values.specs.declared.addr.Family.TheVariants.{Ipv4}
 use Rattle.exa_top.specs.Encoding.{IsEncoding}
-use Rattle.exa_top.proofs.AnsweredLemmas.{no_memory, read_fault, input_long, part_of_whole, encoding_written}
+use Rattle.exa_top.proofs.AnsweredLemmas.{no_memory, read_fault, input_long, encoding_written}
 use Rattle.exa_top.proofs.top.encode.Goals as goal
 
 pub returns-in-Err-Memory : goal.returns-in-Err-Memory
@@ -14,7 +14,7 @@ pub returns-in-Err-Fault : goal.returns-in-Err-Fault
 returns-in-Err-Fault g c =
     let part = c.in-Err-Fault.ensures.part in
     read_fault (c.written_is_spelled.ensures.end Ipv4) _ _ _ _ part.0 (record { given = part.1; left = part.2; short = part.3 })
-    (c.in-Err-Fault.ensures.fault (ap Err c.in-Err-Fault.field-0-is))
+    (c.in-Err-Fault.ensures.fault (ap Err c.in-Err-Fault.field-0-is), c.in-Err-Fault.ensures.later)
 
 pub returns-in-Err-Long : goal.returns-in-Err-Long
 returns-in-Err-Long g c =
@@ -22,17 +22,12 @@ returns-in-Err-Long g c =
     let gave = c.in-Err-Long.ensures.long (ap Err c.in-Err-Long.field-0-is) in
     input_long (c.written_is_spelled.ensures.end Ipv4) _ _ _ _ part.0 (record { given = part.1; left = part.2; short = part.3 })
     (c.in-Err-Long.ensures.same (λ is. absurd (cc)))
-    (record { bytes = gave.0; given = gave.1; full = gave.2; left = c.in-Err-Long.ensures.over (ap Err c.in-Err-Long.field-0-is); unended = gave.3 })
+    (record { bytes = gave.0; given = gave.1; full = gave.3; left = c.in-Err-Long.ensures.over (ap Err c.in-Err-Long.field-0-is); unended = c.in-Err-Long.ensures.open })
 
 pub returns-in_default : goal.returns-in_default
 returns-in_default g c =
-    no_memory (c.written_is_spelled.ensures.end Ipv4) _ _ _ _ c.in-Ok.bytes.items (part_of_whole _ _ _ (record {
-      given = c.in-Ok.ensures.bytes;
-      left = c.in-Ok.ensures.left;
-      whole = c.in-Ok.ensures.whole;
-      short = c.in-Ok.ensures.short;
-      ended = c.in-Ok.ensures.ended;
-    }))
+    let part = c.in-Ok.ensures.part in
+    no_memory (c.written_is_spelled.ensures.end Ipv4) _ _ _ _ part.0 (record { given = part.1; left = part.2; short = part.3 })
     (c.in-Ok.ensures.same (λ is. absurd (cc)))
 
 pub returns : goal.returns
