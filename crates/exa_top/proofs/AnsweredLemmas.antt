@@ -166,17 +166,3 @@ input_long law side source source' sink input part same gave = record {
   long = λ is. gave;
   over = λ from. inl refl;
 }
-
--- a count that one fault was added to has risen
-rises : {before now : ℕ} → CountsOne before now → Rose before now
-rises counts = omega (arith, counts.0)
-
--- a command that was run to its end, but for want of memory
-pub completes : (command : TextCommand) (source source' : SourceSeen) (sink sink' : SinkSeen) (ends : Status) → Answered command source source' sink sink' ends
-    → (GaveLimit input_limit source source' → ⊥) → ¬ Rose source.faults source'.faults → ¬ Rose sink.faults sink'.faults → (ends ≡ status.Ok) ⊎ (ends ≡ status.NoMemory)
-completes command source source' sink sink' status.Ok answered short read_well wrote_well = inl refl
-completes command source source' sink sink' status.Usage answered short read_well wrote_well = absurd (answered.spelled refl)
-completes command source source' sink sink' status.ReadFault answered short read_well wrote_well = absurd (read_well (rises (answered.read refl)))
-completes command source source' sink sink' status.WriteFault answered short read_well wrote_well = absurd (wrote_well (rises (answered.write refl)))
-completes command source source' sink sink' status.NoMemory answered short read_well wrote_well = inr refl
-completes command source source' sink sink' status.InputLong answered short read_well wrote_well = absurd (short (answered.long refl))

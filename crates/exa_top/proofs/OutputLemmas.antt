@@ -39,17 +39,23 @@ none_wanted false side word none = refl
 -- so some output belongs to any input
 pub some_encoding : EndIsSpelled Ipv4 → (side : Side) (input : List ℕ)
     → (early : List ℕ) × IsOutput (Encode side) input early (last_text marker)
-some_encoding law side input = (flat_map reply_text (no_rooms (lines input)), (record {
-  entries = no_rooms (lines input);
-  answered = rooms_answer (lines input);
-  messages = [];
-  are_messages = tt;
-  effects = [];
-  spelled = spells_marker law;
-  leaves = λ key. sym (none_wanted (0 == key.id) side (last_word entry_says (no_rooms (lines input)) key.prefix)
-      (rooms_silent (lines input) key.prefix));
-  text = refl;
-}, refl))
+some_encoding law side input = (
+  flat_map reply_text (no_rooms (lines input)),
+  (
+    record {
+      entries = no_rooms (lines input);
+      answered = rooms_answer (lines input);
+      messages = [];
+      are_messages = tt;
+      effects = [];
+      spelled = spells_marker law;
+      leaves = λ key. sym (none_wanted (0 == key.id) side (last_word entry_says (no_rooms (lines input)) key.prefix)
+          (rooms_silent (lines input) key.prefix));
+      text = refl;
+    },
+    refl,
+  ),
+)
 
 -- an output, by what comes early and late in it
 pub record IsParted (side : Side) (input output : List ℕ) : Type 0 where
@@ -63,15 +69,18 @@ pub parted : (side : Side) (input output : List ℕ) → IsEncoding side input o
 parted side input output encoding = record {
   early = flat_map reply_text encoding.entries;
   late = flat_map more_text encoding.messages ++ last_text marker;
-  outcome = (record {
-    entries = encoding.entries;
-    answered = encoding.answered;
-    messages = encoding.messages;
-    are_messages = encoding.are_messages;
-    effects = encoding.effects;
-    spelled = encoding.spelled;
-    leaves = encoding.leaves;
-    text = refl;
-  }, refl);
+  outcome = (
+    record {
+      entries = encoding.entries;
+      answered = encoding.answered;
+      messages = encoding.messages;
+      are_messages = encoding.are_messages;
+      effects = encoding.effects;
+      spelled = encoding.spelled;
+      leaves = encoding.leaves;
+      text = refl;
+    },
+    refl,
+  );
   output_is = encoding.text;
 }

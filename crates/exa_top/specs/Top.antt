@@ -24,7 +24,11 @@ version_text = codes "exabgpd 0.1.0\n"
 
 -- what `--help` writes
 abbrev pub help_text : List ℕ
-help_text = codes "usage: exabgpd encode LOCAL_AS PEER_AS LOCAL_IP\n           reads announce and withdraw lines, writes replies and UPDATE messages\n       exabgpd --help\n           writes this text\n       exabgpd --version\n           writes the name and the version\n"
+help_text =
+    codes "usage: exabgpd encode LOCAL_AS PEER_AS LOCAL_IP\n"
+    ++ codes "           reads announce and withdraw lines, writes replies and UPDATE messages\n"
+    ++ codes "       exabgpd --help\n" ++ codes "           writes this text\n"
+    ++ codes "       exabgpd --version\n" ++ codes "           writes the name and the version\n"
 
 -- The output that belongs to a command and what it read: what may be written while the input is read, and what only
 -- after its end. Replies to lines come early, and the messages late.

@@ -23,8 +23,12 @@ const MAX_INPUT: usize = 1 << 40;
 const VERSION: &[u8] = b"exabgpd 0.1.0\n";
 
 /// What `--help` writes.
-const HELP: &[u8] =
-    b"usage: exabgpd encode LOCAL_AS PEER_AS LOCAL_IP\n           reads announce and withdraw lines, writes replies and UPDATE messages\n       exabgpd --help\n           writes this text\n       exabgpd --version\n           writes the name and the version\n";
+const HELP: &[u8] = b"usage: exabgpd encode LOCAL_AS PEER_AS LOCAL_IP\n\
+\x20          reads announce and withdraw lines, writes replies and UPDATE messages\n\
+\x20      exabgpd --help\n\
+\x20          writes this text\n\
+\x20      exabgpd --version\n\
+\x20          writes the name and the version\n";
 
 /// Runs the text command that the words spell.
 ///
