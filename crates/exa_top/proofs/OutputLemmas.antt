@@ -1,18 +1,17 @@
 -- Outputs that belong to what a command read.
-use Rattle.std.proofs.Common.{ℕ, ◌≡◌, List, [], ◌∷◌, ◌++◌, Option, Some, None, refl, ap, cond, Bool, true, false, unwrap_or, ◌==◌, sym, ◌∙◌}
+use Rattle.std.proofs.Common.{ℕ, ◌≡◌, List, [], ◌∷◌, ◌++◌, Option, None, refl, ap, cond, Bool, true, false}
+use Rattle.std.proofs.Common.{unwrap_or, ◌==◌, sym}
 use Rattle.std.specs.List.{AllZip, flat_map}
 use Rattle.std.specs.Option.{option_map}
 use Rattle.route_values.specs.declared.addr.Family.TheVariants.{Ipv4}
-use Rattle.route_values.specs.declared.attrs.WireAttrs.{WireAttrs}
-use Rattle.route_values.specs.declared.key.Key.{Key}
 use Rattle.route_values.specs.declared.settings.Side.{Side}
 use Rattle.route_values.specs.Prefix.{Block}
 use Rattle.text_forms.specs.Lines.{Line, lines}
 use Rattle.update_grammar.specs.Laws.{EndIsSpelled}
-use Rattle.update_grammar.specs.Net.{last_word, later_of, net}
+use Rattle.update_grammar.specs.Net.{last_word, later_of}
 use Rattle.exa_top.specs.declared.words.TextCommand.TheVariants.{Encode}
 use Rattle.exa_top.specs.Answers.{Entry, NoRoom, Answers, reply_text, entry_says}
-use Rattle.exa_top.specs.Encoding.{IsEncoding, marker, last_text, more_text, wanted, sent_for}
+use Rattle.exa_top.specs.Encoding.{IsEncoding, marker, last_text, more_text, sent_for}
 use Rattle.exa_top.specs.Top.{IsOutput}
 use Rattle.exa_top.proofs.EncodingLemmas.{spells_marker}
 

@@ -1,5 +1,6 @@
 -- What is sent for a route can be written, and is short.
-use Rattle.std.proofs.Common.{ℕ, ◌≡◌, ◌<◌, ◌≤◌, ◌+◌, ◌^◌, Bool, true, false, cond, List, [], ◌∷◌, length, take, arith, refl, Option, Some, None, All, nat_lt, is_some, inl, IsTrue, ◌⊎◌}
+use Rattle.std.proofs.Common.{ℕ, ◌≡◌, ◌<◌, ◌≤◌, ◌+◌, ◌^◌, Bool, true, false, cond, List, [], ◌∷◌, length, arith}
+use Rattle.std.proofs.Common.{refl, Some, None, All, nat_lt, is_some, inl, IsTrue, ◌⊎◌}
 use Rattle.std.specs.List.{AllByRecursion}
 use Rattle.std.specs.Option.{IfSome}
 use Rattle.std.proofs.lemmas.List.Elements.{All-from_recursion}
@@ -18,7 +19,7 @@ use Rattle.update_grammar.specs.Laws.{HereIsSpelled}
 use Rattle.update_grammar.specs.Prefixes.{addr_bytes}
 use Rattle.update_grammar.specs.Values.{IsSegment, IsNumber}
 use Rattle.update_grammar.specs.Written.{written, IsSendable, IsCarried}
-use Rattle.exa_top.specs.Encoding.{attrs_of, sent_for, plain_caps, more_text}
+use Rattle.exa_top.specs.Encoding.{sent_for, plain_caps, more_text}
 use Rattle.exa_top.specs.Messages.{key_of, message_of, route_text, IsSpelled}
 
 pub length_addr : (a : Addr) → length (addr_bytes a) ≤ 16
@@ -42,7 +43,8 @@ preference_fits true = omega arith
 preference_fits false = tt
 
 pub path_is_short : (hop : ℕ) (side : Side) → All IsShort (sent_for side hop).path
-path_is_short hop side = All-from_recursion IsShort (path_if (is_internal side) side.local_as) (segments_short (is_internal side) side.local_as)
+path_is_short hop side = All-from_recursion IsShort (path_if (is_internal side) side.local_as)
+    (segments_short (is_internal side) side.local_as)
 
 sendable : (hop : ℕ) (side : Side) → hop < 2 ^ 32 → side.local_as < 2 ^ 32 → IsSendable Ipv4 (sent_for side hop)
 sendable hop side small local_small = record {
@@ -58,19 +60,28 @@ sendable hop side small local_small = record {
   large = tt;
 }
 
-visible_ipv4 : (addr : Addr) → family_of addr ≡ Ipv4 → IsTrue (has_family plain_caps (family_of addr)) × (let none : ℕ = 0 in (none ≡ 0) ⊎ IsTrue (has_path plain_caps (family_of addr)))
+visible_ipv4 : (addr : Addr) → family_of addr ≡ Ipv4 → IsTrue (has_family plain_caps (family_of addr))
+    × (let none : ℕ = 0 in (none ≡ 0) ⊎ IsTrue (has_path plain_caps (family_of addr)))
 visible_ipv4 (V4 n) is = (refl, inl refl)
 visible_ipv4 (V6 n) is = absurd (cc)
 
-carried : (prefix : Block) → family_of prefix.addr ≡ Ipv4 → IsPrefix prefix.addr prefix.len → IsCarried plain_caps Ipv4 (key_of prefix)
-carried prefix ipv4 canonical = record { of_family = ipv4; visible = visible_ipv4 prefix.addr ipv4; prefix = canonical; id = omega arith }
+carried : (prefix : Block) → family_of prefix.addr ≡ Ipv4 → IsPrefix prefix.addr prefix.len
+    → IsCarried plain_caps Ipv4 (key_of prefix)
+carried prefix ipv4 canonical = record {
+  of_family = ipv4;
+  visible = visible_ipv4 prefix.addr ipv4;
+  prefix = canonical;
+  id = omega arith;
+}
 
 -- by the grammar's law the message of a prefix spells its announcement
-pub message_spelled : HereIsSpelled Ipv4 → (side : Side) (prefix : Block) (hop : ℕ) → family_of prefix.addr ≡ Ipv4 → IsPrefix prefix.addr prefix.len → hop < 2 ^ 32 → side.local_as < 2 ^ 32
+pub message_spelled : HereIsSpelled Ipv4 → (side : Side) (prefix : Block) (hop : ℕ) → family_of prefix.addr ≡ Ipv4
+    → IsPrefix prefix.addr prefix.len → hop < 2 ^ 32 → side.local_as < 2 ^ 32
     → length (message_of side prefix hop) ≤ 4096 → IsSpelled side prefix hop
 unfolding message_of
 message_spelled law side prefix hop ipv4 canonical hop_small local_small short = record {
-  effect = law plain_caps (sent_for side hop) (key_of prefix ∷ []) (sendable hop side hop_small local_small) (carried prefix ipv4 canonical, tt) (omega (arith, short));
+  effect = law plain_caps (sent_for side hop) (key_of prefix ∷ []) (sendable hop side hop_small local_small)
+      (carried prefix ipv4 canonical, tt) (omega (arith, short));
   short = short;
 }
 
@@ -85,7 +96,8 @@ head_small n false = omega arith
 attr_small : (n : ℕ) → attr_size n ≤ n + 4
 attr_small n = head_small n (nat_lt 255 n)
 
-preference_small : (internal : Bool) → let preference : ℕ = 100 in size_if (is_some (cond internal (Some preference) None)) 4 ≤ 7
+preference_small : (internal : Bool) → let preference : ℕ = 100 in
+    size_if (is_some (cond internal (Some preference) None)) 4 ≤ 7
 preference_small true = omega arith
 preference_small false = omega arith
 
@@ -94,10 +106,12 @@ size_small hop side =
     let path : ℕ = path_size (path_if (is_internal side) side.local_as) in
     omega (arith, path_small (is_internal side) side.local_as, attr_small path, preference_small (is_internal side))
 
-pub message_of-is : (side : Side) (prefix : Block) (hop : ℕ) → message_of side prefix hop ≡ written plain_caps (head.Here Ipv4 (sent_for side hop)) (key_of prefix ∷ [])
+pub message_of-is : (side : Side) (prefix : Block) (hop : ℕ) → message_of side prefix hop
+    ≡ written plain_caps (head.Here Ipv4 (sent_for side hop)) (key_of prefix ∷ [])
 unfolding message_of
 message_of-is side prefix hop = refl
 
-pub route_text-is : (side : Side) (prefix : Block) (hop : ℕ) → route_text side prefix hop ≡ more_text (message_of side prefix hop)
+pub route_text-is : (side : Side) (prefix : Block) (hop : ℕ) → route_text side prefix hop
+    ≡ more_text (message_of side prefix hop)
 unfolding route_text
 route_text-is side prefix hop = refl

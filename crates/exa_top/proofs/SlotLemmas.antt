@@ -31,20 +31,27 @@ pub put_distinct : (slots : List (Block × Option ℕ)) → IsDistinct ghosts.eq
 put_distinct slots distinct =
     let P : (Block → Block → Bool) → Type 0 = λ eq. IsDistinct eq (keys_of slots) in subst P same_tests distinct
 
-pub put_says : (old new : List (Block × Option ℕ)) (prefix : Block) (hop : Option ℕ) → ((other : Block) → lookup (ghosts.eq other) new ≡ cond (ghosts.eq prefix other) (Some hop) (lookup (ghosts.eq other) old)) → IsPut prefix hop old new
+pub put_says : (old new : List (Block × Option ℕ)) (prefix : Block) (hop : Option ℕ)
+    → ((other : Block) → lookup (ghosts.eq other) new ≡ cond (ghosts.eq prefix other) (Some hop)
+    (lookup (ghosts.eq other) old)) → IsPut prefix hop old new
 put_says old new prefix hop says =
-    let P : (Block → Block → Bool) → Type 0 = λ eq. (other : Block) → lookup (eq other) new ≡ cond (eq prefix other) (Some hop) (lookup (eq other) old) in
+    let P : (Block → Block → Bool) → Type 0 = λ eq. (other : Block)
+    → lookup (eq other) new ≡ cond (eq prefix other) (Some hop) (lookup (eq other) old) in
     subst P same_tests says
 
 -- the entries with another word at the head, or behind it
-put_step : (head : Block × Option ℕ) (tail later : List (Block × Option ℕ)) (prefix : Block) (hop : Option ℕ) (same : Bool) → IsSlot head → AllByRecursion IsSlot tail → IsSlot (prefix, hop) → AllByRecursion IsSlot later
+put_step : (head : Block × Option ℕ) (tail later : List (Block × Option ℕ)) (prefix : Block) (hop : Option ℕ)
+    (same : Bool) → IsSlot head → AllByRecursion IsSlot tail → IsSlot (prefix, hop) → AllByRecursion IsSlot later
     → AllByRecursion IsSlot (if same then ((head.0, hop) ∷ tail) else (head ∷ later))
-put_step head tail later prefix hop true first rest new others = (record { ipv4 = first.ipv4; prefix = first.prefix; hop = new.hop }, rest)
+put_step head tail later prefix hop true first rest new others =
+    (record { ipv4 = first.ipv4; prefix = first.prefix; hop = new.hop }, rest)
 put_step head tail later prefix hop false first rest new others = (first, others)
 
 -- entries of IPv4 prefixes stay so
-pub slots_put : (eq : Block → Block → Bool) (slots : List (Block × Option ℕ)) (prefix : Block) (hop : Option ℕ) → AllByRecursion IsSlot slots → IsSlot (prefix, hop)
+pub slots_put : (eq : Block → Block → Bool) (slots : List (Block × Option ℕ)) (prefix : Block) (hop : Option ℕ)
+    → AllByRecursion IsSlot slots → IsSlot (prefix, hop)
     → AllByRecursion IsSlot (insert_entry eq slots prefix hop)
 slots_put eq [] prefix hop each new = (new, tt)
 slots_put eq (e ∷ es) prefix hop each new =
-    put_step e es (insert_entry eq es prefix hop) prefix hop (eq prefix e.0) each.0 each.1 new (slots_put eq es prefix hop each.1 new)
+    put_step e es (insert_entry eq es prefix hop) prefix hop (eq prefix e.0) each.0 each.1 new
+    (slots_put eq es prefix hop each.1 new)

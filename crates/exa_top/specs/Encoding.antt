@@ -1,5 +1,6 @@
 -- What `encode` writes for what it reads.
-use Rattle.std.specs.Prelude.{ℕ, ◌≡◌, ◌≤◌, ◌==◌, codes, true, false, List, [], ◌∷◌, ◌++◌, Option, None, if◌then◌else◌, length}
+use Rattle.std.specs.Prelude.{ℕ, ◌≡◌, ◌≤◌, ◌==◌, codes, true, false, List, [], ◌∷◌, ◌++◌, Option, None, if◌then◌else◌}
+use Rattle.std.specs.Prelude.{length}
 use Rattle.std.specs.List.{flat_map, AllZip, AllByRecursion}
 use Rattle.std.specs.Option.{option_map}
 use Rattle.hex.specs.Hex.{encode_upper}
@@ -58,12 +59,14 @@ plain_caps = record {
 
 -- an UPDATE as it is written, of at most 4,096 bytes (RFC 4271, section 4)
 abbrev pub IsMessage : List ℕ → Type 0
-IsMessage message = (head : Head) × (keys : List Key) × (message ≡ written plain_caps head keys) × (length message ≤ 4096)
+IsMessage message = (head : Head) × (keys : List Key) × (message ≡ written plain_caps head keys)
+    × (length message ≤ 4096)
 
 -- each message's body spells effects; these are all of them, in order
 abbrev pub SpellAll : List (List ℕ) → List Effect → Type 0
 SpellAll [] effects = effects ≡ []
-SpellAll (m ∷ ms) effects = (first : List Effect) × (others : List Effect) × (effects ≡ first ++ others) × Spells plain_caps (body_of m) first × SpellAll ms others
+SpellAll (m ∷ ms) effects = (first : List Effect) × (others : List Effect) × (effects ≡ first ++ others)
+    × Spells plain_caps (body_of m) first × SpellAll ms others
 
 -- the End-of-RIB marker of IPv4
 abbrev pub marker : List ℕ

@@ -33,7 +33,8 @@ help_text =
 -- The output that belongs to a command and what it read: what may be written while the input is read, and what only
 -- after its end. Replies to lines come early, and the messages late.
 abbrev pub IsOutput : TextCommand → List ℕ → List ℕ → List ℕ → Type 0
-IsOutput (Encode side) input early late = (whole : IsEncoding side input (early ++ late)) × (early ≡ flat_map reply_text whole.entries)
+IsOutput (Encode side) input early late =
+    (whole : IsEncoding side input (early ++ late)) × (early ≡ flat_map reply_text whole.entries)
 IsOutput Help input early late = (early ≡ help_text) × (late ≡ [])
 IsOutput Version input early late = (early ≡ version_text) × (late ≡ [])
 
@@ -98,7 +99,8 @@ abbrev pub IsOverrun : Status → Type 0
 IsOverrun ends = (ends ≡ status.InputLong) ⊎ (ends ≡ status.ReadFault) ⊎ (ends ≡ status.NoMemory)
 
 -- the status of a command that was run, and what its devices then show
-pub record Answered (command : TextCommand) (source source' : SourceSeen) (sink sink' : SinkSeen) (ends : Status) : Type 0 where
+pub record Answered (command : TextCommand) (source source' : SourceSeen) (sink sink' : SinkSeen)
+    (ends : Status) : Type 0 where
   pub spelled : ¬ (ends ≡ status.Usage)
   pub ok : ends ≡ status.Ok → Ran command source source' sink sink'
   pub broke : ¬ (ends ≡ status.Ok) → Broke command source source' sink sink'
@@ -111,11 +113,13 @@ pub record Answered (command : TextCommand) (source source' : SourceSeen) (sink 
 
 -- the words spell a command, which read its whole input and wrote its whole output
 abbrev pub Finished : List (List ℕ) → SourceSeen → SourceSeen → SinkSeen → SinkSeen → Type 0
-Finished words source source' sink sink' = (command : TextCommand) × IsCommand words command × Ran command source source' sink sink'
+Finished words source source' sink sink' =
+    (command : TextCommand) × IsCommand words command × Ran command source source' sink sink'
 
 -- the words spell a command, which read a part of its input and wrote a front part of its output
 abbrev pub Began : List (List ℕ) → SourceSeen → SourceSeen → SinkSeen → SinkSeen → Type 0
-Began words source source' sink sink' = (command : TextCommand) × IsCommand words command × Broke command source source' sink sink'
+Began words source source' sink sink' =
+    (command : TextCommand) × IsCommand words command × Broke command source source' sink sink'
 
 -- a source tells what it has left, and that is fewer bytes than the limit
 abbrev pub IsLeftShort : ℕ → Option (List ℕ) → Type 0

@@ -33,7 +33,8 @@ pub fn command_in(line: &[u8]) -> Option<Command>
 // `route PREFIX next-hop IPV4`
 fn announce(text: &[u8]) -> Option<Command>
     ensures found { IfSome result (λ said. ReadsWords (codes "announce" ∷ words_of text.now) said) }
-    ensures none { IfNone result ((said : Said) → ReadsWords (codes "announce" ∷ words_of text.now) said → ⊥) }
+    ensures none { IfNone result
+        ((said : Said) → ReadsWords (codes "announce" ∷ words_of text.now) said → ⊥) }
 {
     let operands = behind(text, b"route")?;
     let (prefix_text, items) = first_word(operands)?;
@@ -47,7 +48,8 @@ fn announce(text: &[u8]) -> Option<Command>
 // `route PREFIX`
 fn withdraw(text: &[u8]) -> Option<Command>
     ensures found { IfSome result (λ said. ReadsWords (codes "withdraw" ∷ words_of text.now) said) }
-    ensures none { IfNone result ((said : Said) → ReadsWords (codes "withdraw" ∷ words_of text.now) said → ⊥) }
+    ensures none { IfNone result
+        ((said : Said) → ReadsWords (codes "withdraw" ∷ words_of text.now) said → ⊥) }
 {
     let operands = behind(text, b"route")?;
     let prefix_text = only_word(operands)?;
@@ -58,7 +60,8 @@ fn withdraw(text: &[u8]) -> Option<Command>
 // What stands behind the first word, where that is this one.
 fn behind<'a>(text: &'a [u8], word: &[u8]) -> Option<&'a [u8]>
     ensures found { IfSome result (λ rest. words_of text.now ≡ word.now ∷ words_of rest.now) }
-    ensures none { IfNone result ((others : List (List ℕ)) → words_of text.now ≡ word.now ∷ others → ⊥) }
+    ensures none { IfNone result
+        ((others : List (List ℕ)) → words_of text.now ≡ word.now ∷ others → ⊥) }
 {
     let (first, rest) = first_word(text)?;
     if is(first, word) { Some(rest) } else { None }

@@ -41,7 +41,8 @@ pub fn put_messages(
     table: &Table,
 ) -> Result<(), NoMemory>
     requires { AllByRecursion IsSlot table.now.entries }
-    ensures text { OnOk result (text.new.items ≡ text.old.items ++ flat_map (slot_text side.now) table.now.entries) }
+    ensures text { OnOk result (text.new.items ≡ text.old.items
+        ++ flat_map (slot_text side.now) table.now.entries) }
     ensures spelled { OnOk result (All (IsSpelledSlot side.now) table.now.entries) }
 {
     let mut message = Message::new(MAX_MESSAGE);
@@ -66,7 +67,8 @@ fn put_slot(
     requires slot { IsSlot (prefix, hop) }
     requires room { message.old.room ≡ 4096 }
     ensures room { message.new.room ≡ 4096 }
-    ensures text { OnOk result (text.new.items ≡ text.old.items ++ slot_text side.now (prefix, hop)) }
+    ensures text { OnOk result (text.new.items ≡ text.old.items
+        ++ slot_text side.now (prefix, hop)) }
     ensures spelled { OnOk result (IsSpelledSlot side.now (prefix, hop)) }
 {
     match hop {
@@ -89,10 +91,11 @@ fn put_route(
     ensures text { OnOk result (text.new.items ≡ text.old.items ++ route_text side.now prefix hop) }
     ensures spelled { OnOk result (IsSpelled side.now prefix hop) }
 {
+    // For the proof: the law, and that the two numbers read here are in their types' ranges.
     written_is_spelled();
-    let attrs = route_attrs(alloc, side, hop)?;
     let _local_as = side.local_as;
     let _bits = prefix.len();
+    let attrs = route_attrs(alloc, side, hop)?;
     message.clear();
     write_here(message, &attrs, &Key { prefix, id: 0 });
     put_line(alloc, text, b"update 0 more ", message.bytes())?;
@@ -113,7 +116,8 @@ fn write_here(message: &mut Message, attrs: &WireAttrs, key: &Key)
     requires hop { family_of attrs.now.hop ≡ Family.Ipv4 }
     requires short { All IsShort attrs.now.path }
     requires small { attributes_size Family.Ipv4 attrs.now ≤ 4000 }
-    ensures text { message.new.bytes ≡ written plain_caps (head.Here Family.Ipv4 attrs.now) (key.now ∷ []) }
+    ensures text { message.new.bytes ≡ written plain_caps (head.Here Family.Ipv4 attrs.now)
+        (key.now ∷ []) }
     ensures room { message.new.room ≡ 4096 }
 {
     if open_here(message, attrs, Family::Ipv4) && put_nlri(message, &CAPS, key) {
@@ -144,7 +148,8 @@ fn write_marker(message: &mut Message)
 
 // Puts a line of some words and of bytes in hexadecimal digits.
 fn put_line(alloc: Global, text: &mut Vec<u8>, words: &[u8], bytes: &[u8]) -> Result<(), NoMemory>
-    ensures { OnOk result (text.new.items ≡ text.old.items ++ (words.now ++ (hex_of bytes.now ++ 10 ∷ []))) }
+    ensures { OnOk result (text.new.items ≡ text.old.items
+        ++ (words.now ++ (hex_of bytes.now ++ 10 ∷ []))) }
 {
     let digits = encode_upper(alloc, bytes)?;
     text.extend_from_slice(words)?;

@@ -89,6 +89,7 @@ pub fn exabgp_text<F: Files, S: Source, K: Sink>(
         → ¬ Rose (K.faults output.old) (K.faults output.new)
         → (result ≡ Status.Ok) ⊎ (result ≡ Status.NoMemory) }
 {
+    // No command opens a file yet.
     let _ = files;
     match text_command(words) {
         Some(command) => run(alloc, command, input, output),
@@ -122,7 +123,7 @@ fn encode<S: Source, K: Sink>(alloc: Global, side: &Side, input: &mut S, output:
         (source_seen S.given S.left S.ended S.faults input.new)
         (sink_seen K.taken K.faults output.old) (sink_seen K.taken K.faults output.new) result }
 {
-    // For the proof that some output belongs to what was read, also where none is made.
+    // For the proof: by the law some output belongs to what was read, also where none is made.
     written_is_spelled();
     let bytes = match read_all(alloc, input, MAX_INPUT) {
         Ok(bytes) => bytes,

@@ -24,14 +24,18 @@ returns-clause-text c =
     let text : List ℕ = c.args.text.now.items in
     let side = c.args.side.now in
     let bytes = c.bytes.ensures.value ∙ c.write_here.ensures.text
-    ∙ ap (λ (w : WireAttrs). written plain_caps (head.Here Ipv4 w) (key_of c.args.prefix ∷ [])) c.in_ok-attrs.ensures ∙ sym (message_of-is side c.args.prefix c.args.hop) in
-    c.in_ok-put_line.ensures ∙ ap (λ (m : List ℕ). text ++ (codes "update 0 more " ++ (encode_upper m ++ 10 ∷ []))) bytes
+    ∙ ap (λ (w : WireAttrs). written plain_caps (head.Here Ipv4 w) (key_of c.args.prefix ∷ [])) c.in_ok-attrs.ensures
+    ∙ sym (message_of-is side c.args.prefix c.args.hop) in
+    c.in_ok-put_line.ensures ∙ ap (λ (m : List ℕ). text ++ (codes "update 0 more " ++ (encode_upper m ++ 10 ∷ [])))
+    bytes
     ∙ ap (λ (t : List ℕ). text ++ t) (sym (route_text-is side c.args.prefix c.args.hop))
 
 pub returns-clause-spelled : goal.returns-clause-spelled
 returns-clause-spelled c =
     let side = c.args.side.now in
     let bytes = c.bytes.ensures.value ∙ c.write_here.ensures.text
-    ∙ ap (λ (w : WireAttrs). written plain_caps (head.Here Ipv4 w) (key_of c.args.prefix ∷ [])) c.in_ok-attrs.ensures ∙ sym (message_of-is side c.args.prefix c.args.hop) in
-    message_spelled (c.written_is_spelled.ensures.here Ipv4) side c.args.prefix c.args.hop c.requires.ipv4 c.len-bits.ensures.canonical (omega arith) (omega arith)
+    ∙ ap (λ (w : WireAttrs). written plain_caps (head.Here Ipv4 w) (key_of c.args.prefix ∷ [])) c.in_ok-attrs.ensures
+    ∙ sym (message_of-is side c.args.prefix c.args.hop) in
+    message_spelled (c.written_is_spelled.ensures.here Ipv4) side c.args.prefix c.args.hop c.requires.ipv4
+    c.len-bits.ensures.canonical (omega arith) (omega arith)
     (omega (arith, ap length bytes, c.bytes.ensures.fits, c.write_here.ensures.room))

@@ -1,4 +1,4 @@
-use Rattle.std.proofs.Common.{List, ℕ, [], ◌∷◌, ◌++◌, ap, sym, ◌∙◌, arith, length, length-take}
+use Rattle.std.proofs.Common.{List, ℕ, [], ◌++◌, ap, ◌∙◌, arith, length-take}
 use Rattle.std.proofs.lemmas.Bool.{false≢true}
 use Rattle.attr_codec.specs.Buffer.{Buffer}
 use Rattle.route_values.specs.declared.addr.Family.TheVariants.{Ipv4}
@@ -8,7 +8,8 @@ use Rattle.update_grammar.specs.Written.{written}
 use Rattle.exa_top.specs.Encoding.{plain_caps}
 use Rattle.exa_top.proofs.SendingLemmas.{length_addr}
 use Rattle.exa_top.proofs.messages.write_here.Goals as goal
-use Rattle.exa_top.proofs.messages.write_here.Goals.{else-open_here-via-then-open_here+else-put_nlri, else-open_here-via-else-open_here}
+use Rattle.exa_top.proofs.messages.write_here.Goals.{else-open_here-via-then-open_here+else-put_nlri}
+use Rattle.exa_top.proofs.messages.write_here.Goals.{else-open_here-via-else-open_here}
 
 pub put_nlri-requires-clause-open : goal.put_nlri-requires-clause-open
 put_nlri-requires-clause-open c = omega (arith, c.if-open_here.ensures.len)
@@ -21,7 +22,8 @@ returns-then-put_nlri-clause-text c =
 
 pub returns-then-put_nlri-clause-room : goal.returns-then-put_nlri-clause-room
 returns-then-put_nlri-clause-room c =
-    c.if-put_nlri.ensures.room ∙ (c.if-open_here.ensures.ok plain_caps).room ∙ ap (λ (b : Buffer). b.room) c.requires.empty
+    c.if-put_nlri.ensures.room ∙ (c.if-open_here.ensures.ok plain_caps).room
+    ∙ ap (λ (b : Buffer). b.room) c.requires.empty
 
 pub unreachable-requires : goal.unreachable-requires
 unreachable-requires c =
@@ -30,6 +32,14 @@ unreachable-requires c =
       | else-open_here-via-then-open_here+else-put_nlri w ↦
           let prefix = c.args.key.now.prefix in
           let same = (w.if-open_here.ensures.ok plain_caps).room ∙ room in
-          false≢true (w.if-put_nlri.ensures.fits.1 (omega (arith, w.if-open_here.ensures.len, same, c.requires.small, length-take (bytes_for prefix.len) (addr_bytes prefix.addr), length_addr prefix.addr)))
-      | else-open_here-via-else-open_here w ↦ false≢true (w.if-open_here.ensures.size.1 (omega (arith, room, c.requires.small)))
+          false≢true (w.if-put_nlri.ensures.fits.1 (omega (
+            arith,
+            w.if-open_here.ensures.len,
+            same,
+            c.requires.small,
+            length-take (bytes_for prefix.len) (addr_bytes prefix.addr),
+            length_addr prefix.addr,
+          )))
+      | else-open_here-via-else-open_here w ↦ false≢true (w.if-open_here.ensures.size.1
+          (omega (arith, room, c.requires.small)))
     ]

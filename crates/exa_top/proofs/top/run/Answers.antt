@@ -1,6 +1,4 @@
-use Rattle.std.proofs.Common.{sym, subst, refl}
-use Rattle.exa_top.specs.Top.{Answered}
-use Rattle.exa_top.specs.declared.words.TextCommand.{TextCommand}
+use Rattle.std.proofs.Common.{refl}
 use Rattle.exa_top.specs.declared.words.TextCommand.TheVariants.{Help, Version}
 use Rattle.exa_top.proofs.AnsweredLemmas.{text_written}
 use Rattle.exa_top.proofs.top.run.Goals as goal
