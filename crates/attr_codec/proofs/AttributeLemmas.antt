@@ -2,22 +2,24 @@
 use Rattle.std.proofs.Common.{ℕ, ◌≡◌, ◌+◌, ◌-◌, ◌<◌, ◌≤◌, true, false, List, [], ◌∷◌, ◌++◌, length, Option, Some, None, Result, Ok, Err, arith, ap, sym, ◌∙◌, refl, subst}
 use Rattle.std.specs.Prelude.{option_to_list, IfOk}
 use Rattle.std.specs.Option.{ok_or}
-use Rattle.route_values.specs.declared.caps.Caps.{Caps}
+use Rattle.answers.specs.Gives.{Blames, Gives}
+use Rattle.route_values.specs.Caps.{Caps}
 use Rattle.update_grammar.specs.declared.effect.Attr.{Attr}
 use Rattle.update_grammar.specs.declared.fault.AttrFault.{AttrFault}
 use Rattle.update_grammar.specs.declared.fault.AttrFault.TheVariants as fault
 use Rattle.update_grammar.specs.Attributes.{Raw}
-use Rattle.update_grammar.specs.Gives.{AttrFails, AttrGives}
+use Rattle.update_grammar.specs.Faults.{attr_blame}
 use Rattle.update_grammar.specs.Laws.{AreBytes}
 use Rattle.update_grammar.specs.Meanings.{SpellsAttributes}
 use Rattle.update_grammar.specs.ReadAttributes.{Before, flags_of_code, has_flags, raw_at, value_in, attr_of, attr_step, attrs_in}
 use Rattle.update_grammar.specs.Steps.{◌>>=◌, each}
+use Rattle.update_grammar.proofs.BlamesLemmas.{blames_along}
 use Rattle.update_grammar.proofs.ReadAttributesLemmas.{stood, attrs_found, attrs_only}
 use Rattle.update_grammar.proofs.ShrinkLemmas.{raw_shrinks, attrs_shrink}
 use Rattle.update_grammar.proofs.StepsLemmas.{with_front, begins, goes_on, stops, is_done}
 use Rattle.attr_codec.specs.declared.fault.ValueFault.{ValueFault}
 use Rattle.attr_codec.specs.declared.fault.ValueFault.TheVariants as value_fault
-use Rattle.attr_codec.specs.Faults.{ValueFails, fault_at}
+use Rattle.attr_codec.specs.Faults.{value_blame, fault_at}
 
 -- an attribute whose code stood before
 pub attr_twice : (caps : Caps) (place : ℕ) (codes : List ℕ) (a : Raw) → has_flags (flags_of_code a.code) a.flags ≡ true → stood codes a.code ≡ true
@@ -26,8 +28,8 @@ unfolding attr_of
 attr_twice caps place codes a flags twice = rw (flags, twice) refl
 
 -- an attribute whose value has a fault
-pub attr_blamed : (e : ValueFault) (caps : Caps) (place : ℕ) (codes : List ℕ) (a : Raw) → has_flags (flags_of_code a.code) a.flags ≡ true → stood codes a.code ≡ false → ValueFails e (value_in caps a.code a.value)
-    → AttrFails (fault_at place a.flags e) (attr_of caps (record { place = place; codes = codes }) a)
+pub attr_blamed : (e : ValueFault) (caps : Caps) (place : ℕ) (codes : List ℕ) (a : Raw) → has_flags (flags_of_code a.code) a.flags ≡ true → stood codes a.code ≡ false → Blames (value_blame e) (value_in caps a.code a.value)
+    → Blames (attr_blame (fault_at place a.flags e)) (attr_of caps (record { place = place; codes = codes }) a)
 unfolding attr_of
 attr_blamed value_fault.BadLength caps place codes a flags new is = rw (flags, new, is) refl
 attr_blamed value_fault.BadValue caps place codes a flags new is = rw (flags, new, is) refl
@@ -91,24 +93,21 @@ attrs_stop caps whole codes rest behind list a e total found is so_far =
     stops (attr_step caps) (attrs_shrink caps) option_to_list list before rest e total some step so_far
 
 pub attrs_fail : (e : AttrFault) (caps : Caps) (whole codes rest behind : List ℕ) (list : List Attr) (a : Raw) (total : Result (List Attr) AttrFault) → Some (a, behind) ≡ raw_at rest
-    → AttrFails e (attr_of caps (before_at whole codes rest) a) → attrs_so_far caps whole codes list rest ≡ total → AttrFails e total
-attrs_fail (fault.Cut place) caps whole codes rest behind list a total found is so_far = attrs_stop caps whole codes rest behind list a _ total found is so_far
-attrs_fail (fault.BadFlags place) caps whole codes rest behind list a total found is so_far = attrs_stop caps whole codes rest behind list a _ total found is so_far
-attrs_fail (fault.Twice place) caps whole codes rest behind list a total found is so_far = attrs_stop caps whole codes rest behind list a _ total found is so_far
-attrs_fail (fault.BadLength place) caps whole codes rest behind list a total found is so_far = attrs_stop caps whole codes rest behind list a _ total found is so_far
-attrs_fail (fault.BadValue place) caps whole codes rest behind list a total found is so_far = attrs_stop caps whole codes rest behind list a _ total found is so_far
-attrs_fail fault.NoMemory caps whole codes rest behind list a total found is so_far = tt
+    → Blames (attr_blame e) (attr_of caps (before_at whole codes rest) a) → attrs_so_far caps whole codes list rest ≡ total → Blames (attr_blame e) total
+attrs_fail e caps whole codes rest behind list a total found is so_far =
+    blames_along (attr_blame e) (attr_of caps (before_at whole codes rest) a) total
+    (λ blamed fails. attrs_stop caps whole codes rest behind list a blamed total found fails so_far) is
 
 -- all attributes are read
 pub attrs_end : (caps : Caps) (whole codes rest : List ℕ) (list : List Attr) (total : Result (List Attr) AttrFault) → length rest ≡ 0 → attrs_so_far caps whole codes list rest ≡ total → total ≡ Ok list
 attrs_end caps whole codes rest list total none so_far = is_done (attr_step caps) option_to_list list (before_at whole codes rest) rest total none so_far
 
 -- what is read is spelled
-pub attrs_are_found : (caps : Caps) (bytes : List ℕ) (answer : Result (List Attr) AttrFault) → AreBytes bytes → AttrGives (λ list. list) answer (attrs_in caps bytes) → IfOk answer (λ said. SpellsAttributes caps bytes said)
+pub attrs_are_found : (caps : Caps) (bytes : List ℕ) (answer : Result (List Attr) AttrFault) → AreBytes bytes → Gives (λ list. list) attr_blame answer (attrs_in caps bytes) → IfOk answer (λ said. SpellsAttributes caps bytes said)
 attrs_are_found caps bytes (Ok said) bytes_are given = attrs_found caps bytes said bytes_are given
 attrs_are_found caps bytes (Err e) bytes_are given = tt
 
 -- what is spelled is read
-pub attrs_are_given : (caps : Caps) (bytes : List ℕ) (answer : Result (List Attr) AttrFault) (said : List Attr) → SpellsAttributes caps bytes said → AttrGives (λ list. list) answer (attrs_in caps bytes)
-    → AttrGives (λ list. list) answer (Ok said)
-attrs_are_given caps bytes answer said spelled given = subst (λ read. AttrGives (λ list. list) answer read) (attrs_only caps bytes said spelled) given
+pub attrs_are_given : (caps : Caps) (bytes : List ℕ) (answer : Result (List Attr) AttrFault) (said : List Attr) → SpellsAttributes caps bytes said → Gives (λ list. list) attr_blame answer (attrs_in caps bytes)
+    → Gives (λ list. list) attr_blame answer (Ok said)
+attrs_are_given caps bytes answer said spelled given = subst (λ read. Gives (λ list. list) attr_blame answer read) (attrs_only caps bytes said spelled) given

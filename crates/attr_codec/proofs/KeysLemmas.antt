@@ -2,6 +2,7 @@
 use Rattle.std.proofs.Common.{ℕ, ◌≡◌, ◌+◌, ◌-◌, ◌<◌, ◌≤◌, Bool, List, [], ◌∷◌, ◌++◌, length, Some, None, Result, Ok, Err, arith, ap, sym, subst}
 use Rattle.std.specs.Prelude.{IfOk}
 use Rattle.std.specs.Option.{ok_or}
+use Rattle.answers.specs.Gives.{Gives}
 use Rattle.route_values.specs.declared.addr.Family.{Family}
 use Rattle.route_values.specs.declared.key.Key.{Key}
 use Rattle.update_grammar.specs.Laws.{AreBytes}
@@ -12,7 +13,7 @@ use Rattle.update_grammar.specs.ReadPrefixes.{key_at, key_step, keys_in}
 use Rattle.update_grammar.proofs.StepsLemmas.{with_front, begins_alone, goes_on, stops, is_done}
 use Rattle.update_grammar.proofs.ReadPrefixLemmas.{key_shrinks, keys_shrink, keys_found, keys_only}
 use Rattle.attr_codec.specs.declared.fault.KeysFault.{KeysFault}
-use Rattle.attr_codec.specs.Faults.{KeysGive}
+use Rattle.attr_codec.specs.Faults.{keys_blame}
 
 -- what is read from a place in the bytes on, behind the keys so far
 abbrev pub keys_so_far : Bool → Family → List ℕ → List Key → List ℕ → Result (List Key) ℕ
@@ -56,12 +57,12 @@ pub keys_end : (path : Bool) (family : Family) (whole rest : List ℕ) (keys : L
 keys_end path family whole rest keys total none so_far = is_done (key_step path family) (λ key. key ∷ []) keys (length whole - length rest) rest total none so_far
 
 -- what is read is spelled
-pub keys_are_found : (path : Bool) (family : Family) (bytes : List ℕ) (answer : Result (List Key) KeysFault) → AreBytes bytes → KeysGive answer (keys_in path family bytes)
+pub keys_are_found : (path : Bool) (family : Family) (bytes : List ℕ) (answer : Result (List Key) KeysFault) → AreBytes bytes → Gives (λ keys. keys) keys_blame answer (keys_in path family bytes)
     → IfOk answer (λ keys. SpellsEach (SpellsKey path family) bytes keys)
 keys_are_found path family bytes (Ok keys) bytes_are given = keys_found path family bytes keys bytes_are given
 keys_are_found path family bytes (Err e) bytes_are given = tt
 
 -- what is spelled is read
-pub keys_are_given : (path : Bool) (family : Family) (bytes : List ℕ) (answer : Result (List Key) KeysFault) (keys : List Key) → SpellsEach (SpellsKey path family) bytes keys → KeysGive answer (keys_in path family bytes)
-    → KeysGive answer (Ok keys)
-keys_are_given path family bytes answer keys spelled given = subst (λ read. KeysGive answer read) (keys_only path family bytes keys spelled) given
+pub keys_are_given : (path : Bool) (family : Family) (bytes : List ℕ) (answer : Result (List Key) KeysFault) (keys : List Key) → SpellsEach (SpellsKey path family) bytes keys → Gives (λ keys. keys) keys_blame answer (keys_in path family bytes)
+    → Gives (λ keys. keys) keys_blame answer (Ok keys)
+keys_are_given path family bytes answer keys spelled given = subst (λ read. Gives (λ keys. keys) keys_blame answer read) (keys_only path family bytes keys spelled) given

@@ -3,15 +3,16 @@ use Rattle.std.proofs.Common.{ℕ, ◌≡◌, ◌<◌, Bool, true, false, not, �
 use Rattle.std.specs.Prelude.{option_to_list, if◌then◌else◌}
 use Rattle.std.proofs.lemmas.Bool.{eqb-false}
 use Rattle.std.proofs.lemmas.List.{append-nil}
+use Rattle.answers.specs.Gives.{Blames}
 use Rattle.route_values.specs.declared.path.Segment.{Segment}
 use Rattle.route_values.specs.Path.{AllFilled}
 use Rattle.update_grammar.specs.Steps.{◌>>=◌, each}
 use Rattle.update_grammar.specs.ReadValues.{Wrong, BadLength, BadValue, Part, part_at, is_segment, segments_of, path_in}
+use Rattle.update_grammar.proofs.BlamesLemmas.{blames_along}
 use Rattle.update_grammar.proofs.StepsLemmas.{each_none, each_one, each_fault}
 use Rattle.update_grammar.proofs.ShrinkLemmas.{parts_shrink}
 use Rattle.attr_codec.specs.declared.fault.ValueFault.{ValueFault}
-use Rattle.attr_codec.specs.declared.fault.ValueFault.TheVariants as fault
-use Rattle.attr_codec.specs.Faults.{ValueFails}
+use Rattle.attr_codec.specs.Faults.{value_blame}
 use Rattle.attr_codec.specs.Raws.{as_segment, IsTold}
 
 -- what parts say behind the segments so far, where all parts so far were segments or not
@@ -72,13 +73,13 @@ pub path_shorter : (part : Part) (rest behind : List ℕ) → part_at tt rest �
 path_shorter part rest behind is = parts_shrink.less tt rest (part, tt, behind) is
 
 -- bytes that are no part end the reading
-pub path_stops : (e : ValueFault) (good : Bool) (front : List Segment) (rest : List ℕ) (total : Result (List Segment) Wrong) → 0 < length rest → ValueFails e (part_at tt rest) → path_so_far good front rest ≡ total
-    → ValueFails e total
-path_stops fault.BadLength good front rest total some is so_far =
-    sym so_far ∙ ap (λ read. read >>= λ parts. parts_behind good front parts) (each_fault part_at parts_shrink tt rest BadLength some is)
-path_stops fault.BadValue good front rest total some is so_far =
-    sym so_far ∙ ap (λ read. read >>= λ parts. parts_behind good front parts) (each_fault part_at parts_shrink tt rest BadValue some is)
-path_stops fault.NoMemory good front rest total some is so_far = tt
+pub path_stops : (e : ValueFault) (good : Bool) (front : List Segment) (rest : List ℕ) (total : Result (List Segment) Wrong)
+    → 0 < length rest → Blames (value_blame e) (part_at tt rest) → path_so_far good front rest ≡ total → Blames (value_blame e) total
+path_stops e good front rest total some is so_far =
+    blames_along (value_blame e) (part_at tt rest) total
+    (λ wrong fails. sym so_far
+    ∙ ap (λ read. read >>= λ parts. parts_behind good front parts) (each_fault part_at parts_shrink tt rest wrong some fails))
+    is
 
 -- all parts are read
 path_ends : (good : Bool) (front : List Segment) (rest : List ℕ) (total : Result (List Segment) Wrong) → length rest ≡ 0 → path_so_far good front rest ≡ total → total ≡ parts_behind good front []

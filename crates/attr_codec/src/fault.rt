@@ -3,8 +3,7 @@ ghost use Rattle.std.specs.Prelude.{◌≡◌};
 ghost use Rattle.attr_codec.specs.declared.fault.KeysFault.TheVariants as keys_fault;
 ghost use Rattle.attr_codec.specs.declared.fault.ValueFault.TheVariants as value_fault;
 
-use route_values::NoMemory;
-use std::alloc::{AllocError, AllocFailed};
+use answers::NoMemory;
 use thiserror::Error;
 
 /// Why bytes are no list of prefixes.
@@ -42,22 +41,6 @@ impl From<NoMemory> for ValueFault {
     ghost from_gives = { λ _ fault. fault ≡ value_fault.NoMemory };
 
     fn from(_: NoMemory) -> ValueFault {
-        ValueFault::NoMemory
-    }
-}
-
-impl From<AllocError> for ValueFault {
-    ghost from_gives = { λ _ fault. fault ≡ value_fault.NoMemory };
-
-    fn from(_: AllocError) -> ValueFault {
-        ValueFault::NoMemory
-    }
-}
-
-impl<T: Drop> From<AllocFailed<T>> for ValueFault {
-    ghost from_gives = { λ _ fault. fault ≡ value_fault.NoMemory };
-
-    fn from(_: AllocFailed<T>) -> ValueFault {
         ValueFault::NoMemory
     }
 }

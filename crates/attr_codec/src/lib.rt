@@ -10,6 +10,7 @@
 pub mod codes;
 mod fault;
 mod message;
+pub mod numbers;
 mod reading;
 #[cfg(test)]
 mod tests;

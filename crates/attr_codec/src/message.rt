@@ -1,8 +1,11 @@
 //! The buffer that a message is written into.
-ghost use Rattle.std.specs.Prelude.{ℕ, ◌≡◌, ◌+◌, ◌≤◌, List, [], ◌++◌, length, take, drop};
-ghost use Rattle.std.specs.Int.{w16, to_be_bytes};
+ghost use Rattle.std.specs.Prelude.{ℕ, ◌≡◌, ◌+◌, ◌≤◌, List, [], ◌++◌, length, take, drop, IfOk};
+ghost use Rattle.std.specs.Int.{w16, w32, w128, to_be_bytes};
 
+use crate::numbers::{u16_bytes, u32_bytes, u128_bytes};
+use answers::NoMemory;
 use arrayvec::ArrayVec;
+use std::alloc::Global;
 use std::marker::Model;
 
 /// The greatest length of a message (RFC 8654, section 4).
@@ -13,11 +16,11 @@ const LEN_START: usize = 16;
 
 const LEN_END: usize = 18;
 
-/// A buffer for one message, with a room of its own: how many bytes may stand in it, at most 65,535. It takes 64 KB
-/// wherever it lies, so lend it.
+/// A buffer for one message, with a room of its own: how many bytes may stand in it, at most 65,535. Its 64 KB lie on
+/// the heap, so that it is moved as a pointer.
 #[derive(Drop)]
 pub struct Message {
-    bytes: ArrayVec<u8, MAX_MESSAGE>,
+    bytes: Box<ArrayVec<u8, MAX_MESSAGE>>,
     room: usize,
 }
 
@@ -27,23 +30,23 @@ impl Model for Message {
 
     ghost Value = { Buffer };
 
-    ghost view = { λ m. record { bytes = m.bytes.items; room = m.room } };
+    ghost view = { λ m. record { bytes = m.bytes.value.items; room = m.room } };
 
-    ghost invariant = { λ m. (length m.bytes.items ≤ m.room) × (m.room ≤ 65535) };
+    ghost invariant = { λ m. (length m.bytes.value.items ≤ m.room) × (m.room ≤ 65535) };
 }
 
 impl Message {
     ghost use Rattle.attr_codec.specs.Buffer.{Buffer, HasRoom, Appended};
 
     /// An empty buffer with room for so many bytes.
-    pub fn new(room: usize) -> Message
+    pub fn new(alloc: Global, room: usize) -> Result<Message, NoMemory>
         requires { room ≤ 65535 }
-        ensures { result ≡ record { bytes = []; room = room } }
+        ensures { IfOk result (λ message. message ≡ record { bytes = []; room = room }) }
     {
-        Message {
-            bytes: ArrayVec::new(),
+        Ok(Message {
+            bytes: Box::new(alloc, ArrayVec::new())?,
             room,
-        }
+        })
     }
 
     /// The bytes so far.
@@ -78,6 +81,30 @@ impl Message {
         let _ = self.bytes.try_extend_from_slice(piece);
     }
 
+    /// Puts a number at the end, in two bytes.
+    pub fn append_u16(&mut self, number: u16)
+        requires { HasRoom self.old 2 }
+        ensures { Appended self.old self.new (to_be_bytes w16 number) }
+    {
+        self.append(&u16_bytes(number));
+    }
+
+    /// Puts a number at the end, in four bytes.
+    pub fn append_u32(&mut self, number: u32)
+        requires { HasRoom self.old 4 }
+        ensures { Appended self.old self.new (to_be_bytes w32 number) }
+    {
+        self.append(&u32_bytes(number));
+    }
+
+    /// Puts a number at the end, in sixteen bytes.
+    pub fn append_u128(&mut self, number: u128)
+        requires { HasRoom self.old 16 }
+        ensures { Appended self.old self.new (to_be_bytes w128 number) }
+    {
+        self.append(&u128_bytes(number));
+    }
+
     /// Writes bytes over those that stand from `start` on.
     pub fn overwrite(&mut self, start: usize, piece: &[u8])
         requires { start + length piece.now ≤ length self.old.bytes }
@@ -110,6 +137,6 @@ impl Message {
     {
         let len = self.bytes.len() as u16;
         let cells = self.bytes.as_mut_slice();
-        cells[LEN_START..LEN_END].copy_from_slice(&len.to_be_bytes());
+        cells[LEN_START..LEN_END].copy_from_slice(&u16_bytes(len));
     }
 }

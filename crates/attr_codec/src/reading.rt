@@ -1,24 +1,25 @@
 //! Reads path attributes and prefixes.
 ghost use Rattle.std.specs.Prelude.{◌≡◌, ◌≤◌, ◌++◌, List, length, IfErr, IfOk, Ok, option_to_list};
+ghost use Rattle.answers.specs.Gives.{Gives};
 ghost use Rattle.update_grammar.specs.declared.effect.Attr.{Attr};
-ghost use Rattle.update_grammar.specs.Gives.{AttrGives};
+ghost use Rattle.update_grammar.specs.Faults.{attr_blame};
 ghost use Rattle.update_grammar.specs.Meanings.{SpellsAttributes};
 ghost use Rattle.update_grammar.specs.ReadAttributes.{attrs_in, place_of};
 
 mod attribute;
 mod codes;
 mod families;
-mod numbers;
 mod path;
 mod prefixes;
 mod raw;
 mod values;
 
+use answers::NoMemory;
 use attribute::attr_of;
 use codes::Codes;
 pub use prefixes::read_keys;
 use raw::raw_at;
-use route_values::{Caps, Items, NoMemory};
+use route_values::{Caps, Items};
 use std::alloc::Global;
 use update_grammar::{Attr, AttrFault};
 
@@ -32,9 +33,9 @@ pub fn read_attrs(alloc: Global, bytes: &[u8], caps: &Caps) -> Result<AttrList, 
     // What is read is spelled.
     ensures found { IfOk result (λ said. SpellsAttributes caps.now bytes.now said) }
     // What is spelled is read, unless memory runs out.
-    ensures only { (said : List Attr) → SpellsAttributes caps.now bytes.now said → AttrGives (λ list. list) result (Ok said) }
+    ensures only { (said : List Attr) → SpellsAttributes caps.now bytes.now said → Gives (λ list. list) attr_blame result (Ok said) }
     // Which fault it is, and that it stands in the bytes.
-    ensures exact { AttrGives (λ list. list) result (attrs_in caps.now bytes.now) }
+    ensures exact { Gives (λ list. list) attr_blame result (attrs_in caps.now bytes.now) }
     ensures within { IfErr result (λ fault. place_of fault ≤ length bytes.now) }
 {
     said_in(alloc, bytes, caps)
@@ -42,7 +43,7 @@ pub fn read_attrs(alloc: Global, bytes: &[u8], caps: &Caps) -> Result<AttrList, 
 
 // What the attributes say, one after the other.
 fn said_in(alloc: Global, bytes: &[u8], caps: &Caps) -> Result<AttrList, AttrFault>
-    ensures exact { AttrGives (λ list. list) result (attrs_in caps.now bytes.now) }
+    ensures exact { Gives (λ list. list) attr_blame result (attrs_in caps.now bytes.now) }
     ensures within { IfErr result (λ fault. place_of fault ≤ length bytes.now) }
 {
     let mut list = AttrList::new(alloc);

@@ -6,9 +6,8 @@ ghost use Rattle.attr_codec.specs.Sizes.{IsShort};
 mod reading;
 
 use super::*;
-use route_values::{
-    Addr, AsPath, Exts, Family, Items, Larges, NoMemory, Origin, Segment, U32s, WireAttrs,
-};
+use answers::NoMemory;
+use route_values::{Addr, AsPath, Family, Items, Origin, Segment, WireAttrs};
 use std::alloc::Global;
 use std::test::Fail;
 
@@ -23,34 +22,19 @@ fn of_path(alloc: Global, count: usize) -> Result<WireAttrs, NoMemory>
         set: false,
         numbers: Items::from_vec(vec![in alloc; 65001; count]?),
     };
-    Ok(WireAttrs {
-        hop: Addr::V4(0xC000_0201),
-        origin: Origin::Igp,
-        path: AsPath::from_segments(vec![in alloc; only]?),
-        med: None,
-        local_pref: None,
-        atomic: false,
-        aggregator: None,
-        communities: U32s::new(alloc),
-        originator: None,
-        clusters: U32s::new(alloc),
-        extended: Exts::new(alloc),
-        large: Larges::new(alloc),
-    })
+    let path = AsPath::from_segments(vec![in alloc; only]?);
+    Ok(WireAttrs::new(alloc, Addr::V4(0xC000_0201), Origin::Igp, path))
 }
 
 // What is written where so many bytes fit, or None where it is refused.
-fn written(attrs: &WireAttrs, room: usize) -> Option<Message>
+fn written(alloc: Global, attrs: &WireAttrs, room: usize) -> Result<Option<Message>, NoMemory>
     requires hop { family_of attrs.now.hop ≡ Ipv4 }
     requires short { All IsShort attrs.now.path }
     requires room { room ≤ 65535 }
 {
-    let mut out = Message::new(room);
-    if put_attrs(&mut out, attrs, Family::Ipv4) {
-        Some(out)
-    } else {
-        None
-    }
+    let mut out = Message::new(alloc, room)?;
+    let fits = put_attrs(&mut out, attrs, Family::Ipv4);
+    Ok(if fits { Some(out) } else { None })
 }
 
 const SHORT: &[u8] = &[
@@ -64,20 +48,21 @@ const SHORT: &[u8] = &[
 fn attributes_that_fit_exactly_are_written(rt: HostRuntime) -> Result<(), Fail> {
     let attrs = of_path(rt.alloc(), 1)?;
     assert_eq!(rt; attrs_len(&attrs, Family::Ipv4), 20);
-    let out = written(&attrs, 20).ok_or("room for 20 bytes")?;
+    let out = written(rt.alloc(), &attrs, 20)?.ok_or("room for 20 bytes")?;
     assert_eq!(rt; out.bytes(), SHORT);
-    assert!(rt; written(&attrs, 19).is_none());
+    assert!(rt; written(rt.alloc(), &attrs, 19)?.is_none());
     Ok(())
 }
 
 #[test]
 fn a_value_past_255_bytes_has_a_length_of_two(rt: HostRuntime) -> Result<(), Fail> {
-    let short = written(&of_path(rt.alloc(), 63)?, 4096).ok_or("room")?;
+    let alloc = rt.alloc();
+    let short = written(alloc, &of_path(alloc, 63)?, 4096)?.ok_or("room")?;
     assert_eq!(rt;
         short.bytes().get(4..9),
         Some([0x40, 0x02, 0xFE, 0x02, 0x3F].as_slice())
     );
-    let long = written(&of_path(rt.alloc(), 64)?, 4096).ok_or("room")?;
+    let long = written(alloc, &of_path(alloc, 64)?, 4096)?.ok_or("room")?;
     assert_eq!(rt;
         long.bytes().get(4..10),
         Some([0x50, 0x02, 0x01, 0x02, 0x02, 0x40].as_slice())
@@ -94,8 +79,8 @@ const SEALED: &[u8] = &[
 ];
 
 #[test]
-fn a_buffer_is_filled_and_sealed_and_emptied(rt: HostRuntime) {
-    let mut out = Message::new(25);
+fn a_buffer_is_filled_and_sealed_and_emptied(rt: HostRuntime) -> Result<(), Fail> {
+    let mut out = Message::new(rt.alloc(), 25)?;
     out.append(&[0; 19]);
     append_unreach(&mut out);
     out.seal();
@@ -103,14 +88,28 @@ fn a_buffer_is_filled_and_sealed_and_emptied(rt: HostRuntime) {
     assert_eq!(rt; out.spare(), 0);
     out.clear();
     assert_eq!(rt; out.spare(), 25);
+    Ok(())
 }
 
 #[test]
-fn bytes_of_a_buffer_are_written_over_and_moved(rt: HostRuntime) {
-    let mut out = Message::new(6);
+fn bytes_of_a_buffer_are_written_over_and_moved(rt: HostRuntime) -> Result<(), Fail> {
+    let mut out = Message::new(rt.alloc(), 6)?;
     out.append(&[1, 2, 3, 4, 5, 6]);
     out.overwrite(1, &[7, 8]);
     assert_eq!(rt; out.bytes(), [1, 7, 8, 4, 5, 6].as_slice());
     out.move_last(1, 2);
     assert_eq!(rt; out.bytes(), [1, 5, 6, 7, 8, 4].as_slice());
+    Ok(())
+}
+
+#[test]
+fn a_buffer_is_moved_as_a_pointer(rt: HostRuntime) -> Result<(), Fail> {
+    assert!(rt; std::mem::size_of::<Message>() <= 24);
+    let full = vec![in rt.alloc(); 0xFF; 65_535]?;
+    let mut out = Message::new(rt.alloc(), full.len())?;
+    out.append(&full);
+    let moved = out;
+    assert_eq!(rt; moved.bytes().len(), 65_535);
+    assert_eq!(rt; moved.spare(), 0);
+    Ok(())
 }

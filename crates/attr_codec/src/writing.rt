@@ -129,8 +129,8 @@ fn put_aggregator(out: &mut Message, aggregator: Option<Aggregator>)
 {
     if let Some(aggregator) = aggregator {
         put_head(out, Kind::OptionalTransitive, AGGREGATOR, AGGREGATOR_LEN);
-        out.append(&aggregator.asn.to_be_bytes());
-        out.append(&aggregator.addr.to_be_bytes());
+        out.append_u32(aggregator.asn);
+        out.append_u32(aggregator.addr);
     }
 }
 

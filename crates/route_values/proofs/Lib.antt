@@ -1,2 +1,4 @@
 pub mod KeyLemmas
+pub mod OctetsLemmas
+pub mod ComparedLemmas
 pub mod FirstPlacesLemmas

@@ -1,8 +1,12 @@
 pub mod Addr
+pub mod Octets
 pub mod Prefix
 pub mod Key
+pub mod Order
+pub mod Caps
 pub mod Visible
 pub mod Path
+pub mod Attrs
 pub mod Settings
 pub mod Sent
 pub mod Limits

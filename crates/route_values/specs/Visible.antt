@@ -3,8 +3,8 @@
 use Rattle.std.specs.Prelude.{◌≡◌, ◌⊎◌, Bool, IsTrue}
 use Rattle.route_values.specs.declared.addr.Family.{Family}
 use Rattle.route_values.specs.declared.addr.Family.TheVariants.{Ipv4, Ipv6}
-use Rattle.route_values.specs.declared.caps.Caps.{Caps}
 use Rattle.route_values.specs.declared.key.Key.{Key}
+use Rattle.route_values.specs.Caps.{Caps}
 use Rattle.route_values.specs.Key.{family_of_key}
 
 -- whether routes of the family are carried

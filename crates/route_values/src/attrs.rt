@@ -1,7 +1,10 @@
 //! Path attributes as they are written in a command, and as they are sent.
+ghost use Rattle.std.specs.Prelude.{◌≡◌};
+
 use crate::addr::Addr;
 use crate::items::Items;
 use crate::path::{AsPath, U32s};
+use std::alloc::Global;
 
 /// Extended communities (RFC 4360), each as its eight bytes.
 pub type Exts = Items<[u8; 8]>;
@@ -79,4 +82,52 @@ pub struct WireAttrs {
     pub clusters: U32s,
     pub extended: Exts,
     pub large: Larges,
+}
+
+impl Attrs {
+    ghost use Rattle.route_values.specs.Attrs.{unwritten};
+
+    /// Attributes of which the next hop alone is written. They take no memory.
+    pub fn new(alloc: Global, hop: Hop) -> Attrs
+        ensures { result ≡ unwritten hop }
+    {
+        Attrs {
+            hop,
+            origin: None,
+            path: None,
+            med: None,
+            local_pref: None,
+            atomic: false,
+            aggregator: None,
+            communities: Items::new(alloc),
+            originator: None,
+            clusters: Items::new(alloc),
+            extended: Items::new(alloc),
+            large: Items::new(alloc),
+        }
+    }
+}
+
+impl WireAttrs {
+    ghost use Rattle.route_values.specs.Attrs.{plain};
+
+    /// Attributes with these three and no others. They take no memory.
+    pub fn new(alloc: Global, hop: Addr, origin: Origin, path: AsPath) -> WireAttrs
+        ensures { result ≡ plain hop origin path }
+    {
+        WireAttrs {
+            hop,
+            origin,
+            path,
+            med: None,
+            local_pref: None,
+            atomic: false,
+            aggregator: None,
+            communities: Items::new(alloc),
+            originator: None,
+            clusters: Items::new(alloc),
+            extended: Items::new(alloc),
+            large: Items::new(alloc),
+        }
+    }
 }

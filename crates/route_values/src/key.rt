@@ -1,6 +1,8 @@
 //! Keys of routes.
 ghost use Rattle.std.specs.Prelude.{◌≡◌};
 ghost use Rattle.route_values.specs.Key.{family_of_key, same_key};
+ghost use Rattle.route_values.specs.Order.{block_cmp, key_cmp};
+ghost use Rattle.route_values.specs.Prefix.{Block};
 
 use crate::addr::Family;
 use crate::items::Items;
@@ -10,7 +12,7 @@ use crate::prefix::Prefix;
 /// was written.
 ///
 /// # Order
-/// By family, address, length and identifier.
+/// By prefix, then by identifier. [`keys_are_ordered`] says so.
 #[derive(Clone, Copy, Debug, PartialEq, Eq, PartialOrd, Ord, Hash)]
 pub struct Key {
     pub prefix: Prefix,
@@ -25,7 +27,7 @@ impl Key {
     pub fn family(&self) -> Family
         ensures { result ≡ family_of_key self.now }
     {
-        self.prefix.addr().family()
+        self.prefix.family()
     }
 
     /// Whether the other key is the same one.
@@ -35,3 +37,10 @@ impl Key {
         *self == *other
     }
 }
+
+/// The law of the order of prefixes and keys: by family, IPv4 first, then by the address as a number, by the length,
+/// and for keys by the identifier. It does nothing.
+pub fn keys_are_ordered()
+    ensures prefixes { (a : Block) (b : Block) → ⟦<Prefix as Ord>⟧.cmp a b ≡ block_cmp a b }
+    ensures keys { (a : Key) (b : Key) → ⟦<Key as Ord>⟧.cmp a b ≡ key_cmp a b }
+{}

@@ -22,7 +22,7 @@ pub use answers::NoMemory;
 pub use attrs::{Aggregator, Attrs, Exts, Hop, Large, Larges, Origin, WireAttrs};
 pub use caps::{Caps, visible};
 pub use items::Items;
-pub use key::{Key, Keys};
+pub use key::{Key, Keys, keys_are_ordered};
 pub use path::{AsPath, Segment, U32s};
 pub use pick::{Pick, Selector, is_picked};
 pub use prefix::Prefix;

@@ -1,5 +1,6 @@
 use super::*;
 use std::alloc::Global;
+use std::mem::size_of;
 use std::test::Fail;
 
 /// The own AS, and that of a neighbour.
@@ -83,6 +84,11 @@ fn a_prefix_has_no_bit_past_its_length(rt: HostRuntime) {
 }
 
 #[test]
+fn a_key_has_24_bytes(rt: HostRuntime) {
+    assert_eq!(rt; size_of::<Key>(), 24);
+}
+
+#[test]
 fn an_external_neighbour_is_sent_the_own_as_and_an_internal_one_a_preference(
     rt: HostRuntime,
 ) -> Result<(), Fail> {
@@ -127,17 +133,8 @@ fn a_session_carries_its_families_and_identifiers_where_it_has_them(
 ) -> Result<(), Fail> {
     let prefix = Prefix::new(Addr::V4(0x0A00_0000), 24).ok_or("a prefix")?;
     let key = Key { prefix, id: 7 };
-    let plain = Caps {
-        ipv4: true,
-        ipv6: false,
-        ipv4_path: false,
-        ipv6_path: false,
-        extended: false,
-    };
-    let identified = Caps {
-        ipv4_path: true,
-        ..plain
-    };
+    let plain = Caps::none().with(Family::Ipv4, false);
+    let identified = plain.with(Family::Ipv4, true);
     assert!(rt; !visible(&key, &plain));
     assert!(rt; visible(&key, &identified));
     assert!(rt; visible(&Key { prefix, id: 0 }, &plain));

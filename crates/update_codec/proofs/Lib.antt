@@ -8,3 +8,5 @@ pub mod AnnouncingLemmas
 pub mod WalkLemmas
 pub mod ReachLemmas
 pub mod ReadingLemmas
+pub mod OpenLemmas
+pub mod LimitLemmas

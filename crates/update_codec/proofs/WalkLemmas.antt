@@ -33,7 +33,7 @@ short_by flags code value rest bytes false is text = rw text (omega arith)
 short_by flags code value rest bytes true is text = cc
 
 long_by : (flags code : ℕ) (value rest bytes : List ℕ) (extended : Bool) → extended ≡ true → length value < (if extended then 2 ^ 16 else 256) → bytes ≡ text_by flags code value extended ++ rest
-    → 4 + from_be_bytes w16 (get_or bytes 2 0 ∷ get_or bytes 3 0 ∷ []) ≡ length (text_by flags code value extended)
+    → 4 + from_be_bytes w16 (drop 2 bytes) ≡ length (text_by flags code value extended)
 long_by flags code value rest bytes true is fits text = rw text (omega (arith, from_be_bytes-to_be_bytes_2 (length value) fits))
 long_by flags code value rest bytes false is fits text = cc
 
@@ -42,7 +42,7 @@ pub short_len : (a : Raw) (rest bytes : List ℕ) → bit_and (get_or bytes 0 0)
 short_len a rest bytes clear is =
     short_by a.flags a.code a.value rest bytes (is_extended a.flags) (clear_bit a.flags (subst (λ text. bit_and (get_or text 0 0) 16 ≡ 0) is clear)) is
 
-pub long_len : (a : Raw) (rest bytes : List ℕ) → bit_and (get_or bytes 0 0) 16 ≢ 0 → IsRaw a → bytes ≡ raw_text a ++ rest → 4 + from_be_bytes w16 (get_or bytes 2 0 ∷ get_or bytes 3 0 ∷ []) ≡ length (raw_text a)
+pub long_len : (a : Raw) (rest bytes : List ℕ) → bit_and (get_or bytes 0 0) 16 ≢ 0 → IsRaw a → bytes ≡ raw_text a ++ rest → 4 + from_be_bytes w16 (drop 2 bytes) ≡ length (raw_text a)
 long_len a rest bytes set fits is =
     long_by a.flags a.code a.value rest bytes (is_extended a.flags) (set_bit a.flags (subst (λ text. bit_and (get_or text 0 0) 16 ≢ 0) is set)) fits.length_fits is
 

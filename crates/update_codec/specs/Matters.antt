@@ -1,5 +1,5 @@
 -- What attributes say, each matter by itself.
-use Rattle.std.specs.Prelude.{List, [], ◌∷◌, true, false, Option, Some, None, unwrap_or, ok_or, Result, Ok}
+use Rattle.std.specs.Prelude.{List, [], ◌∷◌, ◌++◌, true, false, Option, Some, None, unwrap_or, ok_or, Result, Ok}
 use Rattle.route_values.specs.declared.addr.Addr.{Addr}
 use Rattle.route_values.specs.declared.addr.Addr.TheVariants.{V4}
 use Rattle.route_values.specs.declared.attrs.Origin.{Origin}
@@ -95,3 +95,10 @@ announced_from m (key ∷ keys) = do
   both ← needed_in m
   hop ← ok_or m.next_hop (fault.MissingAttr 3)
   Ok (here_in m (V4 hop) (key ∷ keys) both)
+
+-- both, the MP_REACH_NLRI first
+abbrev pub all_from : Matters → Option (Option Reached) → List Key → Result (List Effect) UpdateFault
+all_from m reach keys = do
+  reached ← reached_from m reach
+  behind ← announced_from m keys
+  Ok (reached ++ behind)

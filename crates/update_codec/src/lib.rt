@@ -7,12 +7,14 @@
 #![tactic(auto)]
 
 mod effects;
+mod limits;
 mod reading;
 #[cfg(test)]
 mod tests;
 mod writing;
 
 pub use effects::{Announced, Effects, Parts};
+pub use limits::limits_fit;
 pub use reading::read_update;
 pub use update_grammar::{Effect, UpdateFault};
 pub use writing::{open_gone, open_here, put_end_of_rib, put_nlri, put_reach, put_unreach};

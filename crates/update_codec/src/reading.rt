@@ -1,7 +1,8 @@
 //! Reads the bodies of UPDATE messages (RFC 4271, sections 4.3 and 6.3).
 ghost use Rattle.std.specs.Prelude.{◌≡◌, ◌+◌, ◌^◌, ◌<◌, List, length, IfOk, Ok};
+ghost use Rattle.answers.specs.Gives.{Gives};
 ghost use Rattle.update_grammar.specs.declared.effect.Effect.{Effect};
-ghost use Rattle.update_grammar.specs.Gives.{UpdateGives};
+ghost use Rattle.update_grammar.specs.Faults.{update_blame};
 ghost use Rattle.update_grammar.specs.ReadUpdate.{effects_in, prefixes_in, said_in};
 ghost use Rattle.update_grammar.specs.Update.{Spells};
 
@@ -28,16 +29,16 @@ pub fn read_update(alloc: Global, body: &[u8], caps: &Caps) -> Result<Effects, U
     // What is read is spelled.
     ensures found { IfOk result (λ effects. Spells caps.now body.now effects) }
     // What is spelled is read, unless memory runs out.
-    ensures only { (effects : List Effect) → Spells caps.now body.now effects → UpdateGives (λ e. e) result (Ok effects) }
+    ensures only { (effects : List Effect) → Spells caps.now body.now effects → Gives (λ e. e) update_blame result (Ok effects) }
     // Which fault it is.
-    ensures exact { UpdateGives (λ e. e) result (effects_in caps.now body.now) }
+    ensures exact { Gives (λ e. e) update_blame result (effects_in caps.now body.now) }
 {
     effects_in(alloc, body, caps)
 }
 
 #[tactic(auto, unfolding(update_grammar::specs::ReadUpdate::effects_in))]
 fn effects_in(alloc: Global, body: &[u8], caps: &Caps) -> Result<Effects, UpdateFault>
-    ensures { UpdateGives (λ e. e) result (effects_in caps.now body.now) }
+    ensures { Gives (λ e. e) update_blame result (effects_in caps.now body.now) }
 {
     let fields = fields_in(body)?;
     let attributes_start = 2 * LEN_LEN + fields.withdrawn.len();
@@ -51,9 +52,9 @@ fn effects_in(alloc: Global, body: &[u8], caps: &Caps) -> Result<Effects, Update
 // A field of prefixes of IPv4 that begins so many bytes behind the front.
 fn prefixes_in(alloc: Global, caps: &Caps, start: usize, bytes: &[u8]) -> Result<Keys, UpdateFault>
     requires { start + length bytes.now < 2 ^ 64 }
-    ensures { UpdateGives (λ keys. keys) result (prefixes_in caps.now start bytes.now) }
+    ensures { Gives (λ keys. keys) update_blame result (prefixes_in caps.now start bytes.now) }
 {
-    match read_keys(alloc, bytes, Family::Ipv4, caps.ipv4_path) {
+    match read_keys(alloc, bytes, Family::Ipv4, caps.path(Family::Ipv4)) {
         Ok(keys) => Ok(keys),
         Err(KeysFault::BadPrefix(place)) => Err(UpdateFault::BadPrefix(start + place)),
         Err(KeysFault::NoMemory) => Err(UpdateFault::Attr(AttrFault::NoMemory)),
@@ -63,7 +64,7 @@ fn prefixes_in(alloc: Global, caps: &Caps, start: usize, bytes: &[u8]) -> Result
 // What attributes say that begin so many bytes behind the front.
 fn said_in(alloc: Global, caps: &Caps, start: usize, bytes: &[u8]) -> Result<AttrList, UpdateFault>
     requires { start + length bytes.now < 2 ^ 64 }
-    ensures { UpdateGives (λ list. list) result (said_in caps.now start bytes.now) }
+    ensures { Gives (λ list. list) update_blame result (said_in caps.now start bytes.now) }
 {
     match read_attrs(alloc, bytes, caps) {
         Ok(said) => Ok(said),

@@ -3,7 +3,7 @@ use Rattle.std.proofs.Common.{ℕ, ◌≡◌, ◌^◌, ◌<◌, Bool, true, fals
 use Rattle.std.specs.List.{flat_map, AllByRecursion}
 use Rattle.route_values.specs.declared.addr.Family.{Family}
 use Rattle.route_values.specs.declared.addr.Family.TheVariants.{Ipv4, Ipv6}
-use Rattle.route_values.specs.declared.caps.Caps.{Caps}
+use Rattle.route_values.specs.Caps.{Caps}
 use Rattle.route_values.specs.declared.key.Key.{Key}
 use Rattle.route_values.specs.Visible.{has_family}
 use Rattle.update_grammar.specs.declared.effect.Attr.{Attr}

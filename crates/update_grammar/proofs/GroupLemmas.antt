@@ -2,7 +2,7 @@
 use Rattle.std.proofs.Common.{ℕ, ◌≡◌, ◌^◌, ◌<◌, Bool, true, false, List, [], ◌∷◌, length, refl, inr, Option, Some, None}
 use Rattle.std.specs.Option.{IfSome}
 use Rattle.std.specs.List.{AllByRecursion}
-use Rattle.route_values.specs.declared.caps.Caps.{Caps}
+use Rattle.route_values.specs.Caps.{Caps}
 use Rattle.update_grammar.specs.declared.effect.Attr.{Attr}
 use Rattle.update_grammar.specs.declared.effect.Attr.TheVariants as says
 use Rattle.update_grammar.specs.Attributes.{Raw, IsRaw, AreApart}

@@ -21,3 +21,4 @@ pub mod FamilyLemmas
 pub mod HereLemmas
 pub mod GoneLemmas
 pub mod MarkerLemmas
+pub mod BlamesLemmas

@@ -5,7 +5,7 @@ use Rattle.std.specs.Int.{w16, to_be_bytes}
 use Rattle.route_values.specs.declared.addr.Family.{Family}
 use Rattle.route_values.specs.declared.addr.Family.TheVariants.{Ipv4, Ipv6}
 use Rattle.route_values.specs.declared.attrs.WireAttrs.{WireAttrs}
-use Rattle.route_values.specs.declared.caps.Caps.{Caps}
+use Rattle.route_values.specs.Caps.{Caps}
 use Rattle.route_values.specs.declared.key.Key.{Key}
 use Rattle.update_grammar.specs.Prefixes.{keys_text}
 use Rattle.update_grammar.specs.Attributes.{Raw, raw_text, raw_head, transitive, optional, is_extended}

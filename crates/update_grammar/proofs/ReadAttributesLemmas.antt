@@ -3,7 +3,7 @@ use Rattle.std.proofs.Common.{ℕ, zero, suc, ◌≡◌, ◌≢◌, ◌+◌, ◌
 use Rattle.std.specs.List.{flat_map, list_any, AllByRecursion}
 use Rattle.std.proofs.lemmas.Bool.{ne_eqb}
 use Rattle.std.specs.Option.{option_to_list, ok_or}
-use Rattle.route_values.specs.declared.caps.Caps.{Caps}
+use Rattle.route_values.specs.Caps.{Caps}
 use Rattle.update_grammar.specs.declared.effect.Attr.{Attr}
 use Rattle.update_grammar.specs.declared.fault.AttrFault.{AttrFault}
 use Rattle.update_grammar.specs.declared.fault.AttrFault.TheVariants as fault

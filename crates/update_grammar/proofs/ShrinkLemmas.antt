@@ -4,7 +4,7 @@ use Rattle.std.specs.Option.{ok_or, option_and_then}
 use Rattle.std.specs.Int.{w16, from_be_bytes}
 use Rattle.std.proofs.lemmas.Bool.{ltb-false}
 use Rattle.std.proofs.lemmas.Option.{same_Some}
-use Rattle.route_values.specs.declared.caps.Caps.{Caps}
+use Rattle.route_values.specs.Caps.{Caps}
 use Rattle.update_grammar.specs.declared.effect.Attr.{Attr}
 use Rattle.update_grammar.specs.declared.fault.AttrFault.TheVariants as fault
 use Rattle.update_grammar.specs.Attributes.{Raw, is_extended}

@@ -15,4 +15,4 @@ pub mod ReadValues
 pub mod ReadFamilies
 pub mod ReadAttributes
 pub mod ReadUpdate
-pub mod Gives
+pub mod Faults

@@ -1,7 +1,7 @@
 -- What path attributes mean (RFC 4271, section 5; RFC 4760; RFC 1997; RFC 4360; RFC 4456; RFC 8092).
 use Rattle.std.specs.Prelude.{ℕ, ◌≡◌, ◌⊎◌, List, [], ◌∷◌, Some, None}
 use Rattle.std.specs.List.{flat_map, AllByRecursion}
-use Rattle.route_values.specs.declared.caps.Caps.{Caps}
+use Rattle.route_values.specs.Caps.{Caps}
 use Rattle.update_grammar.specs.declared.effect.Attr.{Attr}
 use Rattle.update_grammar.specs.declared.effect.Attr.TheVariants as says
 use Rattle.update_grammar.specs.Values.{IsNumber, number_text, numbers_text, origin_number, path_text, IsSegment, aggregator_text, IsAggregator, exts_text, IsExt, larges_text, IsLarge}

@@ -8,7 +8,7 @@ use Rattle.route_values.specs.declared.attrs.Aggregator.{Aggregator}
 use Rattle.route_values.specs.declared.attrs.Large.{Large}
 use Rattle.route_values.specs.declared.attrs.Origin.{Origin}
 use Rattle.route_values.specs.declared.attrs.WireAttrs.{WireAttrs}
-use Rattle.route_values.specs.declared.caps.Caps.{Caps}
+use Rattle.route_values.specs.Caps.{Caps}
 use Rattle.route_values.specs.declared.key.Key.{Key}
 use Rattle.route_values.specs.declared.path.Segment.{Segment}
 use Rattle.update_grammar.specs.declared.effect.Attr.{Attr}

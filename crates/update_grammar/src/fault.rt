@@ -3,8 +3,7 @@ ghost use Rattle.std.specs.Prelude.{◌≡◌};
 ghost use Rattle.update_grammar.specs.declared.fault.AttrFault.TheVariants as attr_fault;
 ghost use Rattle.update_grammar.specs.declared.fault.UpdateFault.TheVariants as update_fault;
 
-use route_values::NoMemory;
-use std::alloc::{AllocError, AllocFailed};
+use answers::NoMemory;
 use thiserror::Error;
 
 /// The first fault of path attributes, in the order of their bytes. The attributes before the one at fault have none.
@@ -56,10 +55,44 @@ pub enum UpdateFault {
     MissingAttr(u8),
 }
 
+// The numbers of the faults, by which a refusal is printed.
+const CUT: u8 = 1;
+
+const BAD_FLAGS: u8 = 2;
+
+const BAD_LENGTH: u8 = 3;
+
+const BAD_VALUE: u8 = 4;
+
+const TWICE: u8 = 5;
+
+const NO_MEMORY: u8 = 6;
+
+const BAD_LENGTHS: u8 = 7;
+
+const BAD_PREFIX: u8 = 8;
+
+const MISSING_ATTR: u8 = 9;
+
 impl AttrFault {
     ghost use Rattle.std.specs.Prelude.{◌+◌, ◌^◌, ◌<◌};
+    ghost use Rattle.update_grammar.specs.Faults.{attr_number};
     ghost use Rattle.update_grammar.specs.ReadAttributes.{place_of};
     ghost use Rattle.update_grammar.specs.ReadUpdate.{moved};
+
+    /// The fault's number, from 1 to 6. Each variant has one of its own.
+    pub fn number(self) -> u8
+        ensures { result ≡ attr_number self }
+    {
+        match self {
+            AttrFault::Cut(_) => CUT,
+            AttrFault::BadFlags(_) => BAD_FLAGS,
+            AttrFault::BadLength(_) => BAD_LENGTH,
+            AttrFault::BadValue(_) => BAD_VALUE,
+            AttrFault::Twice(_) => TWICE,
+            AttrFault::NoMemory => NO_MEMORY,
+        }
+    }
 
     /// The same fault, where its attributes stand so many bytes behind the front of what was read.
     pub fn moved(self, start: usize) -> AttrFault
@@ -77,26 +110,26 @@ impl AttrFault {
     }
 }
 
+impl UpdateFault {
+    ghost use Rattle.update_grammar.specs.Faults.{update_number};
+
+    /// The fault's number: that of a fault of attributes is from 1 to 6, the other variants have 7 to 9.
+    pub fn number(self) -> u8
+        ensures { result ≡ update_number self }
+    {
+        match self {
+            UpdateFault::Attr(fault) => fault.number(),
+            UpdateFault::BadLengths(_) => BAD_LENGTHS,
+            UpdateFault::BadPrefix(_) => BAD_PREFIX,
+            UpdateFault::MissingAttr(_) => MISSING_ATTR,
+        }
+    }
+}
+
 impl From<NoMemory> for AttrFault {
     ghost from_gives = { λ _ fault. fault ≡ attr_fault.NoMemory };
 
     fn from(_: NoMemory) -> AttrFault {
-        AttrFault::NoMemory
-    }
-}
-
-impl From<AllocError> for AttrFault {
-    ghost from_gives = { λ _ fault. fault ≡ attr_fault.NoMemory };
-
-    fn from(_: AllocError) -> AttrFault {
-        AttrFault::NoMemory
-    }
-}
-
-impl<T: Drop> From<AllocFailed<T>> for AttrFault {
-    ghost from_gives = { λ _ fault. fault ≡ attr_fault.NoMemory };
-
-    fn from(_: AllocFailed<T>) -> AttrFault {
         AttrFault::NoMemory
     }
 }

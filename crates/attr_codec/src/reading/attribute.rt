@@ -1,8 +1,9 @@
 //! Reads what one attribute says (RFC 4271, section 6.3; RFC 4760, section 7).
 ghost use Rattle.std.specs.Prelude.{◌≡◌, ◌+◌, ◌^◌, ◌<◌, ◌≤◌, List, ℕ, IfErr};
-ghost use Rattle.update_grammar.specs.Gives.{AttrGives};
+ghost use Rattle.answers.specs.Gives.{Gives};
+ghost use Rattle.update_grammar.specs.Faults.{attr_blame};
 ghost use Rattle.update_grammar.specs.ReadAttributes.{head_len, value_in, attr_of, place_of};
-ghost use Rattle.attr_codec.specs.Faults.{ValueGives, fault_at};
+ghost use Rattle.attr_codec.specs.Faults.{value_blame, fault_at};
 ghost use Rattle.attr_codec.specs.Marks.{HasCodes};
 ghost use Rattle.attr_codec.specs.Raws.{raw_of};
 
@@ -34,7 +35,7 @@ pub fn attr_of(
 ) -> Result<Option<Attr>, AttrFault>
     requires { place + head_len attr.now.flags < 2 ^ 64 }
     ensures exact { (before : List ℕ) → HasCodes codes.now before →
-        AttrGives (λ said. said) result (attr_of caps.now (record { place = place; codes = before }) (raw_of attr.now)) }
+        Gives (λ said. said) attr_blame result (attr_of caps.now (record { place = place; codes = before }) (raw_of attr.now)) }
     ensures within { IfErr result (λ fault. place_of fault ≤ place + head_len attr.now.flags) }
 {
     if !has_flags(attr.code, attr.flags) {
@@ -68,7 +69,7 @@ fn fault_at(fault: ValueFault, place: usize, flags: u8) -> AttrFault
 // What a value of a code says: None where the code is unknown.
 #[tactic(auto, unfolding(update_grammar::specs::ReadAttributes::value_in))]
 fn value_in(alloc: Global, code: u8, value: &[u8], caps: &Caps) -> Result<Option<Attr>, ValueFault>
-    ensures { ValueGives (λ said. said) result (value_in caps.now code value.now) }
+    ensures { Gives (λ said. said) value_blame result (value_in caps.now code value.now) }
 {
     Ok(Some(match code {
         ORIGIN => Attr::Origin(origin_in(value)?),

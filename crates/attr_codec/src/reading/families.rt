@@ -8,13 +8,14 @@
 //! ```
 //! An MP_UNREACH_NLRI has AFI, SAFI and prefixes alone.
 ghost use Rattle.std.specs.Prelude.{◌≡◌, option_and_then};
+ghost use Rattle.answers.specs.Gives.{Gives};
 ghost use Rattle.update_grammar.specs.ReadFamilies.{family_of_numbers, agreed, hop_in, keys_value, reached_in, reach_in, unreach_in};
-ghost use Rattle.attr_codec.specs.Faults.{ValueGives};
+ghost use Rattle.attr_codec.specs.Faults.{value_blame};
 
-use super::numbers::{u32_from, u128_from};
 use super::prefixes::read_keys;
 use crate::codes::{AFI_IPV4, AFI_IPV6, IPV6_HOP_LEN, IPV6_HOPS_LEN, NUMBER_LEN, UNICAST};
 use crate::fault::{KeysFault, ValueFault};
+use crate::numbers::{read_u16, read_u32, read_u128};
 use route_values::{Addr, Caps, Family, Keys};
 use std::alloc::Global;
 use update_grammar::Reached;
@@ -22,13 +23,12 @@ use update_grammar::Reached;
 /// An MP_REACH_NLRI, or None where its family isn't the session's.
 #[tactic(auto, unfolding(update_grammar::specs::ReadFamilies::reach_in))]
 pub fn reach_in(alloc: Global, value: &[u8], caps: &Caps) -> Result<Option<Reached>, ValueFault>
-    ensures { ValueGives (λ reached. reached) result (reach_in caps.now value.now) }
+    ensures { Gives (λ reached. reached) value_blame result (reach_in caps.now value.now) }
 {
-    let [high, low, safi, rest @ ..] = value else {
+    let [_, _, safi, rest @ ..] = value else {
         return Err(ValueFault::BadLength);
     };
-    let afi = u16::from_be_bytes([*high, *low]);
-    let Some(family) = agreed(caps, afi, *safi) else {
+    let Some(family) = agreed(caps, read_u16(value), *safi) else {
         return Ok(None);
     };
     Ok(Some(reached_in(alloc, rest, family, caps)?))
@@ -37,13 +37,12 @@ pub fn reach_in(alloc: Global, value: &[u8], caps: &Caps) -> Result<Option<Reach
 /// An MP_UNREACH_NLRI, or None where its family isn't the session's.
 #[tactic(auto, unfolding(update_grammar::specs::ReadFamilies::unreach_in))]
 pub fn unreach_in(alloc: Global, value: &[u8], caps: &Caps) -> Result<Option<Keys>, ValueFault>
-    ensures { ValueGives (λ keys. keys) result (unreach_in caps.now value.now) }
+    ensures { Gives (λ keys. keys) value_blame result (unreach_in caps.now value.now) }
 {
-    let [high, low, safi, rest @ ..] = value else {
+    let [_, _, safi, rest @ ..] = value else {
         return Err(ValueFault::BadLength);
     };
-    let afi = u16::from_be_bytes([*high, *low]);
-    let Some(family) = agreed(caps, afi, *safi) else {
+    let Some(family) = agreed(caps, read_u16(value), *safi) else {
         return Ok(None);
     };
     Ok(Some(keys_value(alloc, rest, family, caps)?))
@@ -57,7 +56,7 @@ fn reached_in(
     family: Family,
     caps: &Caps,
 ) -> Result<Reached, ValueFault>
-    ensures { ValueGives (λ reached. reached) result (reached_in caps.now family bytes.now) }
+    ensures { Gives (λ reached. reached) value_blame result (reached_in caps.now family bytes.now) }
 {
     let [len, rest @ ..] = bytes else {
         return Err(ValueFault::BadLength);
@@ -75,7 +74,7 @@ fn reached_in(
 
 // The keys of a family, as the session writes them.
 fn keys_value(alloc: Global, bytes: &[u8], family: Family, caps: &Caps) -> Result<Keys, ValueFault>
-    ensures { ValueGives (λ keys. keys) result (keys_value caps.now family bytes.now) }
+    ensures { Gives (λ keys. keys) value_blame result (keys_value caps.now family bytes.now) }
 {
     match read_keys(alloc, bytes, family, caps.path(family)) {
         Ok(keys) => Ok(keys),
@@ -89,9 +88,9 @@ fn hop_in(family: Family, hop: &[u8]) -> Option<Addr>
     ensures { result ≡ hop_in family hop.now }
 {
     match family {
-        Family::Ipv4 if hop.len() == NUMBER_LEN => Some(Addr::V4(u32_from(hop))),
+        Family::Ipv4 if hop.len() == NUMBER_LEN => Some(Addr::V4(read_u32(hop))),
         Family::Ipv6 if hop.len() == IPV6_HOP_LEN || hop.len() == IPV6_HOPS_LEN => {
-            Some(Addr::V6(u128_from(&hop[..IPV6_HOP_LEN])))
+            Some(Addr::V6(read_u128(hop)))
         }
         _ => None,
     }

@@ -7,15 +7,17 @@
 //! +-------+-------+------------------+
 //! ```
 ghost use Rattle.std.specs.Prelude.{◌≡◌, ◌++◌, IfOk};
+ghost use Rattle.answers.specs.Gives.{Gives};
 ghost use Rattle.route_values.specs.Path.{AllFilled};
 ghost use Rattle.update_grammar.specs.ReadValues.{part_at, path_in};
-ghost use Rattle.attr_codec.specs.Faults.{ValueGives};
+ghost use Rattle.attr_codec.specs.Faults.{value_blame};
 ghost use Rattle.attr_codec.specs.Raws.{part_of, as_segment, IsTold};
 
 use super::values::numbers_from;
 use crate::codes::{AS_SEQUENCE, AS_SET, NUMBER_LEN};
 use crate::fault::ValueFault;
-use route_values::{AsPath, NoMemory, Segment, U32s};
+use answers::NoMemory;
+use route_values::{AsPath, Segment, U32s};
 use std::alloc::Global;
 
 // What stands in the place of a segment, whether or not it is one.
@@ -27,7 +29,7 @@ struct RawSegment {
 
 /// An AS_PATH. All of it is walked through before it is looked at whether its parts are segments.
 pub fn path_in(alloc: Global, value: &[u8]) -> Result<AsPath, ValueFault>
-    ensures { ValueGives (λ path. path) result (path_in value.now) }
+    ensures { Gives (λ path. path) value_blame result (path_in value.now) }
 {
     let mut segments = Vec::new(alloc);
     let mut good = true;
@@ -46,7 +48,7 @@ pub fn path_in(alloc: Global, value: &[u8]) -> Result<AsPath, ValueFault>
 // The part at the front and the bytes behind it.
 #[tactic(auto, unfolding(update_grammar::specs::ReadValues::part_at))]
 fn part_at(alloc: Global, bytes: &[u8]) -> Result<(RawSegment, &[u8]), ValueFault>
-    ensures { ValueGives (λ one. (part_of one.0, tt, one.1.now)) result (part_at tt bytes.now) }
+    ensures { Gives (λ one. (part_of one.0, tt, one.1.now)) value_blame result (part_at tt bytes.now) }
 {
     let [kind, count, rest @ ..] = bytes else {
         return Err(ValueFault::BadLength);

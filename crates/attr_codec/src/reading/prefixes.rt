@@ -7,17 +7,18 @@
 //! +------------------+-------+----------------------------+
 //! ```
 ghost use Rattle.std.specs.Prelude.{◌≡◌, ◌-◌, ◌*◌, ◌/◌, ◌^◌, ◌≤◌, List, Some, length, option_map, IfErr, IfOk, Ok};
+ghost use Rattle.answers.specs.Gives.{Gives};
 ghost use Rattle.route_values.specs.declared.key.Key.{Key};
 ghost use Rattle.route_values.specs.Addr.{bits_of};
 ghost use Rattle.route_values.specs.Prefix.{IsPrefix};
 ghost use Rattle.update_grammar.specs.Pieces.{SpellsEach};
 ghost use Rattle.update_grammar.specs.Prefixes.{bytes_for, addr_from, SpellsKey};
 ghost use Rattle.update_grammar.specs.ReadPrefixes.{id_at, block_at, key_at, keys_in};
-ghost use Rattle.attr_codec.specs.Faults.{KeysGive, place_of_keys};
+ghost use Rattle.attr_codec.specs.Faults.{keys_blame, place_of_keys};
 
-use super::numbers::{u32_from, u128_from};
 use crate::codes::{BYTE_BITS, ID_LEN, IPV4_BITS, IPV6_BITS};
 use crate::fault::KeysFault;
+use crate::numbers::{read_u32, u32_from, u128_from};
 use route_values::{Addr, Family, Key, Keys, Prefix};
 use std::alloc::Global;
 
@@ -28,9 +29,9 @@ pub fn read_keys(alloc: Global, bytes: &[u8], family: Family, path: bool) -> Res
     // What is read is spelled.
     ensures found { IfOk result (λ keys. SpellsEach (SpellsKey path family) bytes.now keys) }
     // What is spelled is read, unless memory runs out.
-    ensures only { (keys : List Key) → SpellsEach (SpellsKey path family) bytes.now keys → KeysGive result (Ok keys) }
+    ensures only { (keys : List Key) → SpellsEach (SpellsKey path family) bytes.now keys → Gives (λ keys. keys) keys_blame result (Ok keys) }
     // Which prefix is at fault, and that it stands in the bytes.
-    ensures exact { KeysGive result (keys_in path family bytes.now) }
+    ensures exact { Gives (λ keys. keys) keys_blame result (keys_in path family bytes.now) }
     ensures within { IfErr result (λ fault. place_of_keys fault ≤ length bytes.now) }
 {
     keys_in(alloc, bytes, family, path)
@@ -38,7 +39,7 @@ pub fn read_keys(alloc: Global, bytes: &[u8], family: Family, path: bool) -> Res
 
 // The keys, one after the other.
 fn keys_in(alloc: Global, bytes: &[u8], family: Family, path: bool) -> Result<Keys, KeysFault>
-    ensures exact { KeysGive result (keys_in path family bytes.now) }
+    ensures exact { Gives (λ keys. keys) keys_blame result (keys_in path family bytes.now) }
     ensures within { IfErr result (λ fault. place_of_keys fault ≤ length bytes.now) }
 {
     let mut keys = Keys::new(alloc);
@@ -77,8 +78,7 @@ fn id_at(bytes: &[u8], path: bool) -> Option<(u32, &[u8])>
     if bytes.len() < ID_LEN {
         return None;
     }
-    let (front, rest) = bytes.split_at(ID_LEN);
-    Some((u32_from(front), rest))
+    Some((read_u32(bytes), &bytes[ID_LEN..]))
 }
 
 // The prefix at the front and the bytes behind it.

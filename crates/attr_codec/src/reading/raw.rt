@@ -5,6 +5,7 @@ ghost use Rattle.update_grammar.specs.ReadAttributes.{len_at, raw_at, head_len};
 ghost use Rattle.attr_codec.specs.Raws.{raw_of};
 
 use crate::codes::EXTENDED_LENGTH;
+use crate::numbers::read_u16;
 
 /// An attribute whose value isn't looked at yet.
 #[derive(Clone, Copy, Debug)]
@@ -50,10 +51,7 @@ fn len_at(bytes: &[u8], extended: bool) -> Option<(usize, &[u8])>
     ensures value { option_map (λ one. (one.0, one.1.now)) result ≡ len_at extended bytes.now }
 {
     match bytes {
-        [high, low, rest @ ..] if extended => Some((
-            u16::from_be_bytes([*high, *low]).into(),
-            rest,
-        )),
+        [_, _, rest @ ..] if extended => Some((read_u16(bytes).into(), rest)),
         [len, rest @ ..] if !extended => Some(((*len).into(), rest)),
         _ => None,
     }

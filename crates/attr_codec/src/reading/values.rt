@@ -1,21 +1,23 @@
 //! Reads the values of path attributes (RFC 4271, sections 4.3 and 6.3; RFC 6793; RFC 1997; RFC 4360; RFC 4456;
 //! RFC 8092).
 ghost use Rattle.std.specs.Prelude.{◌≡◌, IfOk, Some};
+ghost use Rattle.answers.specs.Gives.{Gives};
 ghost use Rattle.update_grammar.specs.ReadAttributes.{said_as};
 ghost use Rattle.update_grammar.specs.ReadValues.{sized, items_from, number_from, large_from, origin_in, number_in, aggregator_in, numbers_in, exts_in, larges_in};
-ghost use Rattle.attr_codec.specs.Faults.{ValueGives};
+ghost use Rattle.attr_codec.specs.Faults.{value_blame};
 
-use super::numbers::u32_from;
 use crate::codes::{AGGREGATOR_LEN, EGP, EXT_LEN, IGP, INCOMPLETE, LARGE_LEN, NUMBER_LEN};
 use crate::fault::ValueFault;
-use route_values::{Aggregator, Exts, Items, Large, Larges, NoMemory, Origin, U32s};
-use std::alloc::{AllocError, Global};
+use crate::numbers::read_u32;
+use answers::NoMemory;
+use route_values::{Aggregator, Exts, Items, Large, Larges, Origin, U32s};
+use std::alloc::Global;
 use update_grammar::Attr;
 
 /// An ORIGIN (RFC 4271, section 5.1.1).
 #[tactic(auto, unfolding(update_grammar::specs::ReadValues::origin_in))]
 pub fn origin_in(value: &[u8]) -> Result<Origin, ValueFault>
-    ensures { ValueGives (λ origin. origin) result (origin_in value.now) }
+    ensures { Gives (λ origin. origin) value_blame result (origin_in value.now) }
 {
     let [number] = value else {
         return Err(ValueFault::BadLength);
@@ -31,17 +33,17 @@ pub fn origin_in(value: &[u8]) -> Result<Origin, ValueFault>
 /// A number, or an IPv4 address.
 #[tactic(auto, unfolding(update_grammar::specs::ReadValues::number_in))]
 pub fn number_in(value: &[u8]) -> Result<u32, ValueFault>
-    ensures { ValueGives (λ number. number) result (number_in value.now) }
+    ensures { Gives (λ number. number) value_blame result (number_in value.now) }
 {
     if value.len() != NUMBER_LEN {
         return Err(ValueFault::BadLength);
     }
-    Ok(u32_from(value))
+    Ok(read_u32(value))
 }
 
 /// An ATOMIC_AGGREGATE, which has no bytes (RFC 4271, section 5.1.6).
 pub fn atomic_in(value: &[u8]) -> Result<Attr, ValueFault>
-    ensures { ValueGives (λ said. Some said) result (said_as (λ empty. Attr.Atomic) (sized 0 (λ bytes. bytes) value.now)) }
+    ensures { Gives (λ said. Some said) value_blame result (said_as (λ empty. Attr.Atomic) (sized 0 (λ bytes. bytes) value.now)) }
 {
     if value.is_empty() {
         Ok(Attr::Atomic)
@@ -53,22 +55,21 @@ pub fn atomic_in(value: &[u8]) -> Result<Attr, ValueFault>
 /// An AGGREGATOR (RFC 6793, section 3).
 #[tactic(auto, unfolding(update_grammar::specs::ReadValues::aggregator_in))]
 pub fn aggregator_in(value: &[u8]) -> Result<Aggregator, ValueFault>
-    ensures { ValueGives (λ aggregator. aggregator) result (aggregator_in value.now) }
+    ensures { Gives (λ aggregator. aggregator) value_blame result (aggregator_in value.now) }
 {
     if value.len() != AGGREGATOR_LEN {
         return Err(ValueFault::BadLength);
     }
-    let (asn, addr) = value.split_at(NUMBER_LEN);
     Ok(Aggregator {
-        asn: u32_from(asn),
-        addr: u32_from(addr),
+        asn: read_u32(value),
+        addr: read_u32(&value[NUMBER_LEN..]),
     })
 }
 
 /// Communities or clusters.
 #[tactic(auto, unfolding(update_grammar::specs::ReadValues::numbers_in))]
 pub fn numbers_in(alloc: Global, value: &[u8]) -> Result<U32s, ValueFault>
-    ensures { ValueGives (λ numbers. numbers) result (numbers_in value.now) }
+    ensures { Gives (λ numbers. numbers) value_blame result (numbers_in value.now) }
 {
     if value.len() % NUMBER_LEN != 0 {
         return Err(ValueFault::BadLength);
@@ -79,19 +80,18 @@ pub fn numbers_in(alloc: Global, value: &[u8]) -> Result<U32s, ValueFault>
 /// Extended communities.
 #[tactic(auto, unfolding(update_grammar::specs::ReadValues::exts_in))]
 pub fn exts_in(alloc: Global, value: &[u8]) -> Result<Exts, ValueFault>
-    ensures { ValueGives (λ exts. exts) result (exts_in value.now) }
+    ensures { Gives (λ exts. exts) value_blame result (exts_in value.now) }
 {
     if value.len() % EXT_LEN != 0 {
         return Err(ValueFault::BadLength);
     }
-    let (chunks, _) = value.as_chunks::<EXT_LEN>();
-    Ok(Items::from_vec(Vec::from_slice(alloc, chunks)?))
+    Ok(exts_from(alloc, value)?)
 }
 
 /// Large communities.
 #[tactic(auto, unfolding(update_grammar::specs::ReadValues::larges_in))]
 pub fn larges_in(alloc: Global, value: &[u8]) -> Result<Larges, ValueFault>
-    ensures { ValueGives (λ larges. larges) result (larges_in value.now) }
+    ensures { Gives (λ larges. larges) value_blame result (larges_in value.now) }
 {
     if value.len() % LARGE_LEN != 0 {
         return Err(ValueFault::BadLength);
@@ -100,15 +100,23 @@ pub fn larges_in(alloc: Global, value: &[u8]) -> Result<Larges, ValueFault>
 }
 
 /// The numbers of four bytes each that stand in the bytes.
-pub fn numbers_from(alloc: Global, bytes: &[u8]) -> Result<U32s, AllocError>
+pub fn numbers_from(alloc: Global, bytes: &[u8]) -> Result<U32s, NoMemory>
     ensures { IfOk result (λ numbers. numbers ≡ items_from 4 number_from bytes.now) }
 {
     let (chunks, _) = bytes.as_chunks::<NUMBER_LEN>();
-    let numbers = chunks
-        .iter()
-        .map(|chunk| u32::from_be_bytes(*chunk))
-        .collect(alloc)?;
+    let mut numbers = Vec::with_capacity(alloc, chunks.len())?;
+    for chunk in chunks {
+        numbers.push(read_u32(chunk))?;
+    }
     Ok(Items::from_vec(numbers))
+}
+
+// The extended communities of eight bytes each that stand in the bytes.
+fn exts_from(alloc: Global, bytes: &[u8]) -> Result<Exts, NoMemory>
+    ensures { IfOk result (λ exts. exts ≡ items_from 8 (λ ext. ext) bytes.now) }
+{
+    let (chunks, _) = bytes.as_chunks::<EXT_LEN>();
+    Ok(Items::from_vec(Vec::from_slice(alloc, chunks)?))
 }
 
 // The large communities of twelve bytes each that stand in the bytes.
@@ -127,8 +135,8 @@ fn large_from(chunk: &[u8; LARGE_LEN]) -> Large
     ensures { result ≡ large_from chunk.now }
 {
     Large {
-        global: u32_from(&chunk[..NUMBER_LEN]),
-        first: u32_from(&chunk[NUMBER_LEN..2 * NUMBER_LEN]),
-        second: u32_from(&chunk[2 * NUMBER_LEN..]),
+        global: read_u32(chunk),
+        first: read_u32(&chunk[NUMBER_LEN..]),
+        second: read_u32(&chunk[2 * NUMBER_LEN..]),
     }
 }

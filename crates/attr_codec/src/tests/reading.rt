@@ -3,13 +3,12 @@ use route_values::{Addr, Caps, Family, Key, Prefix};
 use std::alloc::Global;
 use std::test::Fail;
 
-const CAPS: Caps = Caps {
-    ipv4: true,
-    ipv6: true,
-    ipv4_path: false,
-    ipv6_path: true,
-    extended: false,
-};
+// Both families, with path identifiers for IPv6.
+fn both() -> Caps {
+    Caps::none()
+        .with(Family::Ipv4, false)
+        .with(Family::Ipv6, true)
+}
 
 const PLAIN: &[u8] = &[
     0x18, 0xC0, 0x00, 0x02, // 192.0.2.0/24
@@ -67,9 +66,9 @@ const SAID: &[(&[u8], &str)] = &[
     (&[0x80, 0x0A, 0x00], "Clusters(Items { items: [] })"),
     (
         &[
-            0x80, 0x0E, 0x0A, 0x00, 0x01, 0x01, 0x04, 0x00, 0x00, 0x00, 0x08, 0x00, 0x00,
+            0x80, 0x0E, 0x09, 0x00, 0x01, 0x01, 0x04, 0x00, 0x00, 0x00, 0x08, 0x00,
         ],
-        "Reach(Some(Reached { hop: V4(8), keys: Items { items: [Key { prefix: Prefix { addr: V4(0), len: 0 }, id: 0 }] } }))",
+        "Reach(Some(Reached { hop: V4(8), keys: Items { items: [] } }))",
     ),
     (&[0x80, 0x0E, 0x03, 0x00, 0x01, 0x02], "Reach(None)"),
     (
@@ -95,7 +94,7 @@ const SAID: &[(&[u8], &str)] = &[
 fn each_attribute_says_what_its_value_means(rt: HostRuntime) -> Result<(), Fail> {
     let alloc = rt.alloc();
     for (bytes, text) in SAID {
-        let said = read_attrs(alloc, bytes, &CAPS)?;
+        let said = read_attrs(alloc, bytes, &both())?;
         let [attr] = said.as_slice() else {
             return Err("one attribute".into());
         };
@@ -112,7 +111,7 @@ const PASSED_OVER: &[u8] = &[
 
 #[test]
 fn an_unknown_attribute_says_nothing(rt: HostRuntime) -> Result<(), Fail> {
-    let said = read_attrs(rt.alloc(), PASSED_OVER, &CAPS)?;
+    let said = read_attrs(rt.alloc(), PASSED_OVER, &both())?;
     assert_eq!(rt; said.len(), 2);
     Ok(())
 }

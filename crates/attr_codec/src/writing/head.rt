@@ -10,6 +10,7 @@ ghost use Rattle.attr_codec.specs.Sizes.{head_size};
 
 use crate::codes::{EXTENDED_LENGTH, Kind, SHORT_MAX};
 use crate::message::Message;
+use crate::numbers::u32_bytes;
 
 /// Puts flags, code and length of an attribute whose value has so many bytes.
 pub fn put_head(out: &mut Message, kind: Kind, code: u8, len: usize)
@@ -19,7 +20,7 @@ pub fn put_head(out: &mut Message, kind: Kind, code: u8, len: usize)
 {
     if len > SHORT_MAX {
         out.append(&[kind.flags() + EXTENDED_LENGTH, code]);
-        out.append(&(len as u16).to_be_bytes());
+        out.append_u16(len as u16);
     } else {
         out.append(&[kind.flags(), code, len as u8]);
     }
@@ -41,6 +42,6 @@ pub fn put_number(out: &mut Message, kind: Kind, code: u8, number: Option<u32>)
     ensures { Appended out.old out.new (raws_text (raw_if number_text (flags_of kind) code number)) }
 {
     if let Some(number) = number {
-        put_plain(out, kind, code, &number.to_be_bytes());
+        put_plain(out, kind, code, &u32_bytes(number));
     }
 }

@@ -10,6 +10,7 @@ use crate::codes::{
     IPV6_HOP_LEN, IPV6_UNICAST, Kind, MP_REACH_NLRI, NEXT_HOP, REACH_LEN, RESERVED,
 };
 use crate::message::Message;
+use crate::numbers::u32_bytes;
 use route_values::Addr;
 
 /// Puts NEXT_HOP, which goes with IPv4 alone.
@@ -18,7 +19,7 @@ pub fn put_next_hop(out: &mut Message, hop: Addr)
     ensures { Appended out.old out.new (raws_text (hop_raws (family_of hop) hop)) }
 {
     if let Addr::V4(number) = hop {
-        put_plain(out, Kind::WellKnown, NEXT_HOP, &number.to_be_bytes());
+        put_plain(out, Kind::WellKnown, NEXT_HOP, &u32_bytes(number));
     }
 }
 
@@ -31,7 +32,7 @@ pub fn put_reach_head(out: &mut Message, hop: Addr)
         put_head(out, Kind::Optional, MP_REACH_NLRI, REACH_LEN);
         out.append(&IPV6_UNICAST);
         out.append(&[IPV6_HOP_LEN as u8]);
-        out.append(&number.to_be_bytes());
+        out.append_u128(number);
         out.append(&[RESERVED]);
     }
 }

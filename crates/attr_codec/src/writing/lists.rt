@@ -67,7 +67,7 @@ pub fn put_numbers(out: &mut Message, numbers: &[u32])
     ensures { Appended out.old out.new (numbers_text numbers.now) }
 {
     for number in numbers {
-        out.append(&number.to_be_bytes());
+        out.append_u32(*number);
     }
 }
 
@@ -93,7 +93,7 @@ fn put_large(out: &mut Message, large: &Large)
     requires { HasRoom out.old 12 }
     ensures { Appended out.old out.new (large_text large.now) }
 {
-    out.append(&large.global.to_be_bytes());
-    out.append(&large.first.to_be_bytes());
-    out.append(&large.second.to_be_bytes());
+    out.append_u32(large.global);
+    out.append_u32(large.first);
+    out.append_u32(large.second);
 }

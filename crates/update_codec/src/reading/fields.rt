@@ -7,11 +7,13 @@
 //! +-----------+-----------+------------+------------+----------+
 //! ```
 ghost use Rattle.std.specs.Prelude.{◌≡◌, ◌+◌, option_map, length, IfOk, IfSome};
-ghost use Rattle.update_grammar.specs.Gives.{UpdateGives};
+ghost use Rattle.answers.specs.Gives.{Gives};
+ghost use Rattle.update_grammar.specs.Faults.{update_blame};
 ghost use Rattle.update_grammar.specs.ReadUpdate.{field_at, fields_in};
 ghost use Rattle.update_codec.specs.Fields.{fields_view};
 
 use crate::writing::LEN_LEN;
+use attr_codec::numbers::read_u16;
 use update_grammar::UpdateFault;
 
 /// The fields of a body.
@@ -25,7 +27,7 @@ pub struct Fields<'a> {
 /// The fields of a body, or the length that runs past it.
 #[tactic(auto, unfolding(update_grammar::specs::ReadUpdate::fields_in))]
 pub fn fields_in(body: &[u8]) -> Result<Fields<'_>, UpdateFault>
-    ensures exact { UpdateGives fields_view result (fields_in body.now) }
+    ensures exact { Gives fields_view update_blame result (fields_in body.now) }
     ensures whole { IfOk result (λ f. 4 + length f.withdrawn.now + length f.attributes.now + length f.announced.now ≡ length body.now) }
 {
     let Some((withdrawn, rest)) = field_at(body) else {
@@ -47,10 +49,10 @@ fn field_at(bytes: &[u8]) -> Option<(&[u8], &[u8])>
     ensures exact { option_map (λ one. (one.0.now, one.1.now)) result ≡ field_at bytes.now }
     ensures whole { IfSome result (λ one. 2 + length one.0.now + length one.1.now ≡ length bytes.now) }
 {
-    let [high, low, rest @ ..] = bytes else {
+    let [_, _, rest @ ..] = bytes else {
         return None;
     };
-    let len = usize::from(u16::from_be_bytes([*high, *low]));
+    let len = usize::from(read_u16(bytes));
     if rest.len() < len {
         return None;
     }

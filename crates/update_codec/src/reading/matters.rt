@@ -1,9 +1,9 @@
 //! What the attributes of a body say, each matter by itself.
-ghost use Rattle.std.specs.Prelude.{◌≡◌, []};
+ghost use Rattle.std.specs.Prelude.{◌≡◌, [], IfOk};
 ghost use Rattle.update_codec.specs.Matters.{matters_of, told_of, with_attr};
 
 use attr_codec::AttrList;
-use route_values::{Aggregator, AsPath, Exts, Items, Keys, Larges, Origin, U32s};
+use route_values::{Aggregator, AsPath, Exts, Items, Keys, Larges, NoMemory, Origin, U32s};
 use std::alloc::Global;
 use update_grammar::{Attr, Reached};
 
@@ -54,6 +54,26 @@ impl Matters {
             large: Items::new(alloc),
         }
     }
+
+    /// Equal matters.
+    pub fn copy(&self, alloc: Global) -> Result<Matters, NoMemory>
+        ensures { IfOk result (λ copied. copied ≡ self.now) }
+    {
+        Ok(Matters {
+            origin: self.origin,
+            path: copy_path(alloc, &self.path)?,
+            next_hop: self.next_hop,
+            med: self.med,
+            local_pref: self.local_pref,
+            atomic: self.atomic,
+            aggregator: self.aggregator,
+            communities: self.communities.copy(alloc)?,
+            originator: self.originator,
+            clusters: self.clusters.copy(alloc)?,
+            extended: self.extended.copy(alloc)?,
+            large: self.large.copy(alloc)?,
+        })
+    }
 }
 
 impl Told {
@@ -93,5 +113,14 @@ impl Told {
             Attr::Extended(extended) => self.matters.extended = extended,
             Attr::Large(large) => self.matters.large = large,
         }
+    }
+}
+
+fn copy_path(alloc: Global, path: &Option<AsPath>) -> Result<Option<AsPath>, NoMemory>
+    ensures { IfOk result (λ copied. copied ≡ path.now) }
+{
+    match path {
+        Some(path) => Ok(Some(path.copy(alloc)?)),
+        None => Ok(None),
     }
 }

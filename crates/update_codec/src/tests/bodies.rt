@@ -5,7 +5,7 @@ use super::*;
 struct Row {
     shows: &'static str,
     body: &'static [u8],
-    caps: Caps,
+    carried: Carried,
     gone: &'static [Net],
     here: &'static [News],
 }
@@ -21,7 +21,7 @@ const BODIES: &[Row] = &[
             0x40, 0x01, 0x01, 0x00, // ORIGIN IGP
             0x18, 0x0A, 0x00, 0x00, // 10.0.0.0/24
         ],
-        caps: NO_PATHS,
+        carried: Carried::Both,
         gone: &[],
         here: &[(Said::Least, IPV4_HOP, &[IPV4_NET])],
     },
@@ -35,7 +35,7 @@ const BODIES: &[Row] = &[
             0x50, 0x03, 0x00, 0x04, 0xC0, 0x00, 0x02, 0x01, // NEXT_HOP 192.0.2.1
             0x18, 0x0A, 0x00, 0x00, // 10.0.0.0/24
         ],
-        caps: NO_PATHS,
+        carried: Carried::Both,
         gone: &[],
         here: &[(Said::Least, IPV4_HOP, &[IPV4_NET])],
     },
@@ -49,7 +49,7 @@ const BODIES: &[Row] = &[
             0x6F, 0x03, 0x04, 0xC0, 0x00, 0x02, 0x01, // NEXT_HOP 192.0.2.1
             0x18, 0x0A, 0x00, 0x00, // 10.0.0.0/24
         ],
-        caps: NO_PATHS,
+        carried: Carried::Both,
         gone: &[],
         here: &[(Said::Least, IPV4_HOP, &[IPV4_NET])],
     },
@@ -64,7 +64,7 @@ const BODIES: &[Row] = &[
             0x40, 0x03, 0x04, 0xC0, 0x00, 0x02, 0x01, // NEXT_HOP 192.0.2.1
             0x18, 0x0A, 0x00, 0x00, // 10.0.0.0/24
         ],
-        caps: NO_PATHS,
+        carried: Carried::Both,
         gone: &[],
         here: &[(Said::Least, IPV4_HOP, &[IPV4_NET])],
     },
@@ -85,7 +85,7 @@ const BODIES: &[Row] = &[
             0x00, // reserved
             0x20, 0x20, 0x01, 0x0D, 0xB8, // 2001:db8::/32
         ],
-        caps: NO_PATHS,
+        carried: Carried::Both,
         gone: &[],
         here: &[(Said::Least, IPV6_HOP, &[IPV6_NET])],
     },
@@ -104,7 +104,7 @@ const BODIES: &[Row] = &[
             0xFF, // reserved
             0x20, 0x20, 0x01, 0x0D, 0xB8, // 2001:db8::/32
         ],
-        caps: NO_PATHS,
+        carried: Carried::Both,
         gone: &[],
         here: &[(Said::Least, IPV6_HOP, &[IPV6_NET])],
     },
@@ -115,7 +115,7 @@ const BODIES: &[Row] = &[
             0x09, 0x0A, 0xFF, // 10.128.0.0/9, with bits past the ninth
             0x00, 0x00, // no attributes
         ],
-        caps: NO_PATHS,
+        carried: Carried::Both,
         gone: &[(Addr::V4(0x0A80_0000), 9, 0)],
         here: &[],
     },
@@ -133,7 +133,7 @@ const BODIES: &[Row] = &[
             0x00, // reserved
             0x18, 0x0A, 0x00, 0x00, // 10.0.0.0/24
         ],
-        caps: NO_PATHS,
+        carried: Carried::Both,
         gone: &[],
         here: &[(Said::Least, IPV4_HOP, &[IPV4_NET])],
     },
@@ -146,7 +146,7 @@ const BODIES: &[Row] = &[
             0x00, 0x01, 0x01, // IPv4 unicast
             0x18, 0x0A, 0x00, 0x00, // 10.0.0.0/24
         ],
-        caps: NO_PATHS,
+        carried: Carried::Both,
         gone: &[IPV4_NET],
         here: &[],
     },
@@ -165,7 +165,7 @@ const BODIES: &[Row] = &[
             0x00, // reserved
             0x20, 0x20, 0x01, 0x0D, 0xB8, // 2001:db8::/32
         ],
-        caps: IPV4_ALONE,
+        carried: Carried::Ipv4Alone,
         gone: &[],
         here: &[],
     },
@@ -178,7 +178,7 @@ const BODIES: &[Row] = &[
             0x00, 0x02, 0x01, // IPv6 unicast
             0x20, 0x20, 0x01, 0x0D, 0xB8, // 2001:db8::/32
         ],
-        caps: IPV4_ALONE,
+        carried: Carried::Ipv4Alone,
         gone: &[],
         here: &[],
     },
@@ -196,7 +196,7 @@ const BODIES: &[Row] = &[
             0x00, 0x02, 0x02, // IPv6 multicast
             0xFF, // a byte that is not looked at
         ],
-        caps: NO_PATHS,
+        carried: Carried::Both,
         gone: &[],
         here: &[],
     },
@@ -221,7 +221,7 @@ const BODIES: &[Row] = &[
             0x30, 0x20, 0x01, 0x0D, 0xB8, 0x00, 0x01, // 2001:db8:1::/48
             0x18, 0x0A, 0x00, 0x00, // 10.0.0.0/24
         ],
-        caps: NO_PATHS,
+        carried: Carried::Both,
         gone: &[
             (Addr::V4(0xC000_0200), 24, 0),
             (Addr::V6(0x2001_0DB8_0001 << 80), 48, 0),
@@ -245,7 +245,7 @@ const BODIES: &[Row] = &[
             0xC0, 0x20, 0x00, // LARGE_COMMUNITY
             0x18, 0x0A, 0x00, 0x00, // 10.0.0.0/24
         ],
-        caps: NO_PATHS,
+        carried: Carried::Both,
         gone: &[],
         here: &[(Said::Least, IPV4_HOP, &[IPV4_NET])],
     },
@@ -260,7 +260,7 @@ const BODIES: &[Row] = &[
             0x40, 0x06, 0x00, // ATOMIC_AGGREGATE
             0x18, 0x0A, 0x00, 0x00, // 10.0.0.0/24
         ],
-        caps: NO_PATHS,
+        carried: Carried::Both,
         gone: &[],
         here: &[(Said::Atomic, IPV4_HOP, &[IPV4_NET])],
     },
@@ -270,7 +270,7 @@ const BODIES: &[Row] = &[
 fn bodies_are_read_in_all_their_forms(rt: HostRuntime) -> Result<(), Fail> {
     let alloc = rt.alloc();
     for row in BODIES {
-        let found = read_update(alloc, row.body, &row.caps)?;
+        let found = read_update(alloc, row.body, &row.carried.caps())?;
         let found = format!(in alloc; "{found:?}")?;
         let wanted = effects(alloc, row.gone, row.here)?;
         let wanted = format!(in alloc; "{wanted:?}")?;

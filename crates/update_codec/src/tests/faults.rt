@@ -4,104 +4,114 @@ use update_grammar::AttrFault::{BadFlags, BadLength, BadValue, Cut, Twice};
 use update_grammar::UpdateFault::{self, Attr, BadLengths, BadPrefix, MissingAttr};
 
 // What a body shows, its bytes, the session's capabilities, and the fault.
-const FAULTS: &[(&str, &[u8], Caps, UpdateFault)] = &[
-    ("no byte at all", &[], NO_PATHS, BadLengths(0)),
-    ("half of the first length", &[0x00], NO_PATHS, BadLengths(0)),
+const FAULTS: &[(&str, &[u8], Carried, UpdateFault)] = &[
+    ("no byte at all", &[], Carried::Both, BadLengths(0)),
+    (
+        "half of the first length",
+        &[0x00],
+        Carried::Both,
+        BadLengths(0),
+    ),
     (
         "fewer withdrawn prefixes than their length says",
         &[0x00, 0x05, 0x00],
-        NO_PATHS,
+        Carried::Both,
         BadLengths(0),
     ),
-    ("no second length", &[0x00, 0x00], NO_PATHS, BadLengths(2)),
+    (
+        "no second length",
+        &[0x00, 0x00],
+        Carried::Both,
+        BadLengths(2),
+    ),
     (
         "fewer attributes than their length says",
         &[0x00, 0x00, 0x00, 0x04, 0x40, 0x01],
-        NO_PATHS,
+        Carried::Both,
         BadLengths(2),
     ),
     (
         "no second length, and a bad withdrawn prefix",
         &[0x00, 0x01, 0x21],
-        NO_PATHS,
+        Carried::Both,
         BadLengths(3),
     ),
     (
         "a withdrawn prefix that is cut",
         &[0x00, 0x03, 0x18, 0x0A, 0x00, 0x00, 0x00],
-        NO_PATHS,
+        Carried::Both,
         BadPrefix(2),
     ),
     (
         "a withdrawn prefix of 33 bits",
         &[0x00, 0x06, 0x21, 0x0A, 0x00, 0x00, 0x00, 0x00, 0x00, 0x00],
-        NO_PATHS,
+        Carried::Both,
         BadPrefix(2),
     ),
     (
         "a withdrawn prefix of 33 bits with four bytes",
         &[0x00, 0x05, 0x21, 0x0A, 0x00, 0x00, 0x00, 0x00, 0x00],
-        NO_PATHS,
+        Carried::Both,
         BadPrefix(2),
     ),
     (
         "an identifier without a prefix",
         &[0x00, 0x04, 0x00, 0x00, 0x00, 0x07, 0x00, 0x00],
-        PATHS,
+        Carried::Identified,
         BadPrefix(2),
     ),
     (
         "a second withdrawn prefix that is cut",
         &[0x00, 0x05, 0x08, 0x0A, 0x18, 0x0B, 0x00, 0x00, 0x00],
-        NO_PATHS,
+        Carried::Both,
         BadPrefix(4),
     ),
     (
         "a bad withdrawn prefix before a bad attribute",
         &[0x00, 0x01, 0x21, 0x00, 0x01, 0x40],
-        NO_PATHS,
+        Carried::Both,
         BadPrefix(2),
     ),
     (
         "an attribute that is cut behind its flags",
         &[0x00, 0x00, 0x00, 0x01, 0x40],
-        NO_PATHS,
+        Carried::Both,
         Attr(Cut(4)),
     ),
     (
         "an attribute that is cut before its length",
         &[0x00, 0x00, 0x00, 0x02, 0x40, 0x01],
-        NO_PATHS,
+        Carried::Both,
         Attr(Cut(4)),
     ),
     (
         "an attribute that is cut in its value",
         &[0x00, 0x00, 0x00, 0x03, 0x40, 0x01, 0x01],
-        NO_PATHS,
+        Carried::Both,
         Attr(Cut(4)),
     ),
     (
         "an attribute behind withdrawn prefixes",
         &[0x00, 0x02, 0x08, 0x0A, 0x00, 0x01, 0x40],
-        NO_PATHS,
+        Carried::Both,
         Attr(Cut(6)),
     ),
     (
         "a bad attribute before a bad announced prefix",
         &[0x00, 0x00, 0x00, 0x01, 0x40, 0x21],
-        NO_PATHS,
+        Carried::Both,
         Attr(Cut(4)),
     ),
     (
         "an ORIGIN that is optional",
         &[0x00, 0x00, 0x00, 0x04, 0xC0, 0x01, 0x01, 0x00],
-        NO_PATHS,
+        Carried::Both,
         Attr(BadFlags(4)),
     ),
     (
         "an unknown code that is not optional",
         &[0x00, 0x00, 0x00, 0x03, 0x40, 0x63, 0x00],
-        NO_PATHS,
+        Carried::Both,
         Attr(BadFlags(4)),
     ),
     (
@@ -112,13 +122,13 @@ const FAULTS: &[(&str, &[u8], Caps, UpdateFault)] = &[
             0x40, 0x01, 0x01, 0x00, // ORIGIN IGP
             0xC0, 0x01, 0x01, 0x00, // ORIGIN IGP, as optional
         ],
-        NO_PATHS,
+        Carried::Both,
         Attr(BadFlags(8)),
     ),
     (
         "an unknown code twice",
         &[0x00, 0x00, 0x00, 0x06, 0x80, 0x63, 0x00, 0x80, 0x63, 0x00],
-        NO_PATHS,
+        Carried::Both,
         Attr(Twice(7)),
     ),
     (
@@ -129,25 +139,25 @@ const FAULTS: &[(&str, &[u8], Caps, UpdateFault)] = &[
             0x40, 0x01, 0x01, 0x00, // ORIGIN IGP
             0x40, 0x01, 0x00, // ORIGIN of no byte
         ],
-        NO_PATHS,
+        Carried::Both,
         Attr(Twice(8)),
     ),
     (
         "an ORIGIN of two bytes",
         &[0x00, 0x00, 0x00, 0x05, 0x40, 0x01, 0x02, 0x00, 0x00],
-        NO_PATHS,
+        Carried::Both,
         Attr(BadLength(6)),
     ),
     (
         "an ORIGIN over 2",
         &[0x00, 0x00, 0x00, 0x04, 0x40, 0x01, 0x01, 0x03],
-        NO_PATHS,
+        Carried::Both,
         Attr(BadValue(7)),
     ),
     (
         "an ORIGIN over 2 behind a length of two bytes",
         &[0x00, 0x00, 0x00, 0x05, 0x50, 0x01, 0x00, 0x01, 0x03],
-        NO_PATHS,
+        Carried::Both,
         Attr(BadValue(8)),
     ),
     (
@@ -158,25 +168,25 @@ const FAULTS: &[(&str, &[u8], Caps, UpdateFault)] = &[
             0x40, 0x02, 0x06, // AS_PATH
             0x03, 0x01, 0x00, 0x00, 0xFD, 0xE9, // 65001, of type 3
         ],
-        NO_PATHS,
+        Carried::Both,
         Attr(BadValue(7)),
     ),
     (
         "a segment without numbers",
         &[0x00, 0x00, 0x00, 0x05, 0x40, 0x02, 0x02, 0x02, 0x00],
-        NO_PATHS,
+        Carried::Both,
         Attr(BadValue(7)),
     ),
     (
         "a path that ends within a segment, behind one of type 3",
         &[0x00, 0x00, 0x00, 0x06, 0x40, 0x02, 0x03, 0x03, 0x01, 0x00],
-        NO_PATHS,
+        Carried::Both,
         Attr(BadLength(6)),
     ),
     (
         "an MP_REACH_NLRI that ends within its family",
         &[0x00, 0x00, 0x00, 0x05, 0x80, 0x0E, 0x02, 0x00, 0x02],
-        NO_PATHS,
+        Carried::Both,
         Attr(BadLength(6)),
     ),
     (
@@ -188,7 +198,7 @@ const FAULTS: &[(&str, &[u8], Caps, UpdateFault)] = &[
             0x00, 0x02, 0x01, // IPv6 unicast
             0x10, // length of the next hop
         ],
-        NO_PATHS,
+        Carried::Both,
         Attr(BadLength(6)),
     ),
     (
@@ -202,7 +212,7 @@ const FAULTS: &[(&str, &[u8], Caps, UpdateFault)] = &[
             0x01, 0x02, 0x03, // next hop
             0x00, // reserved
         ],
-        NO_PATHS,
+        Carried::Both,
         Attr(BadValue(7)),
     ),
     (
@@ -217,13 +227,13 @@ const FAULTS: &[(&str, &[u8], Caps, UpdateFault)] = &[
             0x00, // reserved
             0x21, // 33 bits
         ],
-        NO_PATHS,
+        Carried::Both,
         Attr(BadValue(7)),
     ),
     (
         "an MP_UNREACH_NLRI that ends within its family",
         &[0x00, 0x00, 0x00, 0x05, 0x80, 0x0F, 0x02, 0x00, 0x02],
-        NO_PATHS,
+        Carried::Both,
         Attr(BadLength(6)),
     ),
     (
@@ -235,7 +245,7 @@ const FAULTS: &[(&str, &[u8], Caps, UpdateFault)] = &[
             0x00, 0x02, 0x01, // IPv6 unicast
             0x81, // 129 bits
         ],
-        NO_PATHS,
+        Carried::Both,
         Attr(BadValue(7)),
     ),
     (
@@ -248,19 +258,19 @@ const FAULTS: &[(&str, &[u8], Caps, UpdateFault)] = &[
             0x40, 0x03, 0x04, 0xC0, 0x00, 0x02, 0x01, // NEXT_HOP 192.0.2.1
             0x18, 0x0A, 0x00, // 24 bits in two bytes
         ],
-        NO_PATHS,
+        Carried::Both,
         BadPrefix(24),
     ),
     (
         "a bad announced prefix before a missing attribute",
         &[0x00, 0x00, 0x00, 0x00, 0x21],
-        NO_PATHS,
+        Carried::Both,
         BadPrefix(4),
     ),
     (
         "a prefix without attributes",
         &[0x00, 0x00, 0x00, 0x00, 0x18, 0x0A, 0x00, 0x00],
-        NO_PATHS,
+        Carried::Both,
         MissingAttr(1),
     ),
     (
@@ -271,7 +281,7 @@ const FAULTS: &[(&str, &[u8], Caps, UpdateFault)] = &[
             0x40, 0x01, 0x01, 0x00, // ORIGIN IGP
             0x18, 0x0A, 0x00, 0x00, // 10.0.0.0/24
         ],
-        NO_PATHS,
+        Carried::Both,
         MissingAttr(2),
     ),
     (
@@ -283,13 +293,13 @@ const FAULTS: &[(&str, &[u8], Caps, UpdateFault)] = &[
             0x40, 0x02, 0x00, // an empty AS_PATH
             0x18, 0x0A, 0x00, 0x00, // 10.0.0.0/24
         ],
-        NO_PATHS,
+        Carried::Both,
         MissingAttr(3),
     ),
     (
         "an MP_REACH_NLRI alone, of a family that isn't the session's",
         &[0x00, 0x00, 0x00, 0x06, 0x80, 0x0E, 0x03, 0x00, 0x02, 0x01],
-        IPV4_ALONE,
+        Carried::Ipv4Alone,
         MissingAttr(1),
     ),
     (
@@ -305,15 +315,15 @@ const FAULTS: &[(&str, &[u8], Caps, UpdateFault)] = &[
             0x00, 0x09, // 2001:db8::9
             0x00, // reserved
         ],
-        NO_PATHS,
+        Carried::Both,
         MissingAttr(2),
     ),
 ];
 
 #[test]
 fn bodies_are_refused_for_their_first_fault(rt: HostRuntime) {
-    for (shows, body, caps, fault) in FAULTS {
-        let found = read_update(rt.alloc(), body, caps).err();
+    for (shows, body, carried, fault) in FAULTS {
+        let found = read_update(rt.alloc(), body, &carried.caps()).err();
         assert_eq!(rt; found, Some(*fault), "{shows}");
     }
 }

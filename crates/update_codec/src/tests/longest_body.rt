@@ -32,7 +32,7 @@ fn prefixes_of_one_byte_each_without_attributes_miss_the_first(
 ) -> Result<(), Fail> {
     let body = longest_body(rt.alloc(), BARE)?;
     assert_eq!(rt;
-        read_update(rt.alloc(), &body, &NO_PATHS).err(),
+        read_update(rt.alloc(), &body, &Carried::Both.caps()).err(),
         Some(UpdateFault::MissingAttr(1))
     );
     Ok(())
@@ -41,7 +41,7 @@ fn prefixes_of_one_byte_each_without_attributes_miss_the_first(
 #[test]
 fn each_of_65511_prefixes_is_announced(rt: HostRuntime) -> Result<(), Fail> {
     let body = longest_body(rt.alloc(), COMPLETE)?;
-    let effects = read_update(rt.alloc(), &body, &NO_PATHS)?;
+    let effects = read_update(rt.alloc(), &body, &Carried::Both.caps())?;
     let parts = effects.parts();
     assert_eq!(rt; parts.gone.len(), 0);
     let [announced] = parts.here else {

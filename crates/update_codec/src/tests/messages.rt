@@ -1,10 +1,5 @@
 //! Messages that are written from values and read as the same values.
-ghost use Rattle.std.specs.Prelude.{◌≡◌, All};
-ghost use Rattle.route_values.specs.declared.addr.Family.TheVariants.{Ipv4};
-ghost use Rattle.route_values.specs.Addr.{family_of};
-ghost use Rattle.attr_codec.specs.Sizes.{IsShort};
-
-use super::reached::announce;
+use super::opened::withdraw;
 use super::values::{IPV4_NET, Net, effects, keys};
 use super::vectors::{
     FULL_IDENTIFIED, FULL_IPV4, LONG_PATH, ONE_PREFIX, REACHED, REACHED_BETWEEN,
@@ -27,7 +22,7 @@ enum Head {
 struct Row {
     shows: &'static str,
     message: &'static [u8],
-    caps: Caps,
+    carried: Carried,
     head: Head,
     nets: &'static [Net],
 }
@@ -52,150 +47,126 @@ const MESSAGES: &[Row] = &[
     Row {
         shows: "an announcement of one prefix of IPv4",
         message: ONE_PREFIX,
-        caps: NO_PATHS,
+        carried: Carried::Both,
         head: Head::Here(Said::Least, IPV4_HOP),
         nets: &[IPV4_NET],
     },
     Row {
         shows: "several prefixes with identifiers",
         message: THREE_IDENTIFIED,
-        caps: PATHS,
+        carried: Carried::Identified,
         head: Head::Here(Said::Least, IPV4_HOP),
         nets: THREE_NETS,
     },
     Row {
         shows: "an attribute of more than 255 bytes",
         message: LONG_PATH,
-        caps: NO_PATHS,
+        carried: Carried::Both,
         head: Head::Here(Said::Long, IPV4_HOP),
         nets: &[IPV4_NET],
     },
     Row {
         shows: "all attributes of a prefix of IPv4",
         message: FULL_IPV4,
-        caps: NO_PATHS,
+        carried: Carried::Both,
         head: Head::Here(Said::Full, IPV4_HOP),
         nets: &[IPV4_NET],
     },
     Row {
         shows: "all attributes of a prefix of IPv4 with an identifier",
         message: FULL_IDENTIFIED,
-        caps: PATHS,
+        carried: Carried::Identified,
         head: Head::Here(Said::Full, IPV4_HOP),
         nets: &[IPV4_SEVENTH],
     },
     Row {
         shows: "an announcement of one prefix of IPv6",
         message: REACHED,
-        caps: NO_PATHS,
+        carried: Carried::Both,
         head: Head::Here(Said::Least, IPV6_HOP),
         nets: &[IPV6_NET],
     },
     Row {
         shows: "attributes on both sides of a prefix of IPv6",
         message: REACHED_BETWEEN,
-        caps: NO_PATHS,
+        carried: Carried::Both,
         head: Head::Here(Said::Full, IPV6_HOP),
         nets: &[IPV6_NET],
     },
     Row {
         shows: "attributes on both sides of a prefix of IPv6 with an identifier",
         message: REACHED_IDENTIFIED,
-        caps: PATHS,
+        carried: Carried::Identified,
         head: Head::Here(Said::Full, IPV6_HOP),
         nets: &[IPV6_SEVENTH],
     },
     Row {
         shows: "a withdrawal of a prefix of IPv4",
         message: WITHDRAWN_IPV4,
-        caps: NO_PATHS,
+        carried: Carried::Both,
         head: Head::Gone(Family::Ipv4),
         nets: &[IPV4_NET],
     },
     Row {
         shows: "a withdrawal of prefixes of IPv4 with identifiers",
         message: WITHDRAWN_IDENTIFIED_IPV4,
-        caps: PATHS,
+        carried: Carried::Identified,
         head: Head::Gone(Family::Ipv4),
         nets: &[IPV4_SEVENTH, IPV4_EIGHTH, IPV4_ALL],
     },
     Row {
         shows: "a withdrawal of a prefix of IPv6",
         message: WITHDRAWN_IPV6,
-        caps: NO_PATHS,
+        carried: Carried::Both,
         head: Head::Gone(Family::Ipv6),
         nets: &[IPV6_NET],
     },
     Row {
         shows: "a withdrawal of prefixes of IPv6 with identifiers",
         message: WITHDRAWN_IDENTIFIED_IPV6,
-        caps: PATHS,
+        carried: Carried::Identified,
         head: Head::Gone(Family::Ipv6),
         nets: &[IPV6_SEVENTH, IPV6_WHOLE],
     },
     Row {
         shows: "the marker of IPv4",
         message: IPV4_MARKER,
-        caps: NO_PATHS,
+        carried: Carried::Both,
         head: Head::End(Family::Ipv4),
         nets: &[],
     },
     Row {
         shows: "the marker of IPv6",
         message: IPV6_MARKER,
-        caps: NO_PATHS,
+        carried: Carried::Both,
         head: Head::End(Family::Ipv6),
         nets: &[],
     },
 ];
 
-// Writes a message.
+// Writes a message; all of its keys fit.
 fn written(alloc: Global, row: &Row) -> Result<Message, Fail> {
     let keys = keys(alloc, row.nets)?;
-    Ok(match row.head {
-        Head::Here(said, hop) => announced(&attrs(alloc, said, hop)?, &row.caps, keys.as_slice()),
-        Head::Gone(family) => withdrawn(family, &row.caps, keys.as_slice()),
-        Head::End(family) => marker(family),
-    })
-}
-
-fn announced(attrs: &WireAttrs, caps: &Caps, keys: &[Key]) -> Message
-    requires short { All IsShort attrs.now.path }
-{
-    match attrs.hop.family() {
-        Family::Ipv4 => announced_ipv4(attrs, caps, keys),
-        Family::Ipv6 => {
-            let mut out = Message::new(4096);
-            let _ = announce(&mut out, attrs, caps, keys);
-            out
+    let mut out = Message::new(alloc, 4096)?;
+    let whole = match row.head {
+        Head::Here(said, hop) => {
+            let attrs = attrs(alloc, said, hop)?;
+            announce(
+                &mut out,
+                &attrs,
+                hop.family(),
+                &row.carried.caps(),
+                keys.as_slice(),
+            ) == keys.len()
         }
+        Head::Gone(family) => withdraw(&mut out, family, &row.carried.caps(), keys.as_slice())
+            == keys.len(),
+        Head::End(family) => put_end_of_rib(&mut out, family),
+    };
+    if !whole {
+        return Err("a key does not fit".into());
     }
-}
-
-fn announced_ipv4(attrs: &WireAttrs, caps: &Caps, keys: &[Key]) -> Message
-    requires hop { family_of attrs.now.hop ≡ Ipv4 }
-    requires short { All IsShort attrs.now.path }
-{
-    let mut out = opened(attrs, Family::Ipv4);
-    for key in keys {
-        let _ = put_ipv4(&mut out, caps, key);
-    }
-    out
-}
-
-fn withdrawn(family: Family, caps: &Caps, keys: &[Key]) -> Message {
-    let mut out = Message::new(4096);
-    open_gone(&mut out, family);
-    for key in keys {
-        let _ = withdraw(&mut out, caps, key);
-    }
-    out
-}
-
-fn marker(family: Family) -> Message {
-    let mut out = Message::new(4096);
-    let _ = put_end_of_rib(&mut out, family);
-    out
+    Ok(out)
 }
 
 // The effects of a message.
@@ -217,7 +188,7 @@ fn messages_are_written_and_read_as_their_values(rt: HostRuntime) -> Result<(), 
         let out = written(alloc, row)?;
         assert_eq!(rt; out.bytes(), row.message, "{}", row.shows);
         let body = row.message.get(HEADER_LEN..).ok_or("a header")?;
-        let found = read_update(alloc, body, &row.caps)?;
+        let found = read_update(alloc, body, &row.carried.caps())?;
         let found = format!(in alloc; "{found:?}")?;
         let wanted = format!(in alloc; "{:?}", wanted(alloc, row)?)?;
         assert_eq!(rt; found.as_str(), wanted.as_str(), "{}", row.shows);

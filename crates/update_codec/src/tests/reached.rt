@@ -1,55 +1,11 @@
-ghost use Rattle.std.specs.Prelude.{◌≡◌, ◌≤◌, [], All, IfOk};
+//! Announcements of IPv6, whose prefixes stand in an attribute.
+ghost use Rattle.std.specs.Prelude.{◌≡◌, All, IfOk};
 ghost use Rattle.route_values.specs.declared.addr.Family.TheVariants.{Ipv6};
 ghost use Rattle.route_values.specs.Addr.{family_of};
 ghost use Rattle.attr_codec.specs.Sizes.{IsShort};
-ghost use Rattle.update_codec.specs.Reach.{IsOpenReach};
 
 use super::fronts::{REACHED_LONG_FRONT, REACHED_SHORT_FRONT, TARGET};
 use super::*;
-
-// Puts a prefix of IPv6 into an announcement.
-fn reach(out: &mut Message, caps: &Caps, key: &Key) -> bool
-    requires { IsOpenReach caps.now out.old.bytes }
-    ensures { IsOpenReach caps.now out.new.bytes }
-{
-    key.family() == Family::Ipv6 && put_reach(out, caps, key)
-}
-
-/// Puts prefixes into an announcement that is written first; answers how many of them are in it.
-pub fn announce(out: &mut Message, attrs: &WireAttrs, caps: &Caps, keys: &[Key]) -> usize
-    requires empty { out.old.bytes ≡ [] }
-    requires room { 4096 ≤ out.old.room }
-    requires hop { family_of attrs.now.hop ≡ Ipv6 }
-    requires short { All IsShort attrs.now.path }
-{
-    if !open_here(out, attrs, Family::Ipv6) {
-        return 0;
-    }
-    let mut count = 0;
-    for key in keys {
-        if reach(out, caps, key) {
-            count += 1;
-        }
-    }
-    count
-}
-
-#[test]
-fn attributes_at_all_limits_leave_room_for_a_whole_address(rt: HostRuntime) -> Result<(), Fail> {
-    let attrs = longest(rt.alloc(), IPV6_HOP)?;
-    let mut out = Message::new(4096);
-    assert_eq!(rt;
-        announce(
-            &mut out,
-            &attrs,
-            &PATHS,
-            &[key((Addr::V6(0x2001_0DB8 << 96), 128, 1))?]
-        ),
-        1
-    );
-    assert_eq!(rt; out.bytes().len(), 3864);
-    Ok(())
-}
 
 // One AS, communities, and the attributes whose length never changes, where these are wanted.
 fn with_more(alloc: Global, communities: usize, fixed: bool) -> Result<WireAttrs, NoMemory>
@@ -80,11 +36,15 @@ fn a_value_of_256_bytes_has_a_length_of_two(rt: HostRuntime) -> Result<(), Fail>
     let mut attrs = attrs(rt.alloc(), Said::Least, IPV6_HOP)?;
     attrs.extended = Items::from_vec(vec![in rt.alloc(); [1; 8]]?);
     for (count, front) in [(47, REACHED_SHORT_FRONT), (48, REACHED_LONG_FRONT)] {
-        let mut out = Message::new(4096);
-        assert_eq!(rt;
-            announce(&mut out, &attrs, &NO_PATHS, &filling()?[..count]),
-            count
+        let mut out = Message::new(rt.alloc(), 4096)?;
+        let put = announce(
+            &mut out,
+            &attrs,
+            Family::Ipv6,
+            &Carried::Both.caps(),
+            &filling()?[..count],
         );
+        assert_eq!(rt; put, count);
         assert!(rt; out.bytes().starts_with(front), "{count} prefixes");
         assert!(rt; out.bytes().ends_with(TARGET), "{count} prefixes");
     }
@@ -95,9 +55,19 @@ fn a_value_of_256_bytes_has_a_length_of_two(rt: HostRuntime) -> Result<(), Fail>
 fn the_second_byte_of_a_length_wants_room(rt: HostRuntime) -> Result<(), Fail> {
     for (communities, fixed, count, len) in [(949, false, 48, 4096), (945, true, 47, 4095)] {
         let attrs = with_more(rt.alloc(), communities, fixed)?;
-        let mut out = Message::new(4096);
-        assert_eq!(rt; announce(&mut out, &attrs, &NO_PATHS, &filling()?), count);
-        assert_eq!(rt; out.bytes().len(), len, "{communities} communities");
+        let mut out = Message::new(rt.alloc(), 4096)?;
+        let put = announce(
+            &mut out,
+            &attrs,
+            Family::Ipv6,
+            &Carried::Both.caps(),
+            &filling()?,
+        );
+        assert_eq!(rt;
+            (put, out.bytes().len()),
+            (count, len),
+            "{communities} communities"
+        );
     }
     Ok(())
 }

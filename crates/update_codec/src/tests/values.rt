@@ -9,6 +9,28 @@ pub const IPV4_HOP: Addr = Addr::V4(0xC000_0201);
 
 pub const IPV6_HOP: Addr = Addr::V6(0x2001_0DB8_0000_0000_0000_0000_0000_0009);
 
+/// What a session carries.
+#[derive(Clone, Copy)]
+pub enum Carried {
+    /// Both families.
+    Both,
+    /// Both families, with path identifiers.
+    Identified,
+    /// IPv4 alone.
+    Ipv4Alone,
+}
+
+impl Carried {
+    pub fn caps(self) -> Caps {
+        let none = Caps::none();
+        match self {
+            Carried::Both => none.with(Family::Ipv4, false).with(Family::Ipv6, false),
+            Carried::Identified => none.with(Family::Ipv4, true).with(Family::Ipv6, true),
+            Carried::Ipv4Alone => none.with(Family::Ipv4, false),
+        }
+    }
+}
+
 /// Address, bits and identifier of a key.
 pub type Net = (Addr, u8, u32);
 
@@ -64,18 +86,28 @@ pub fn attrs(alloc: Global, said: Said, hop: Addr) -> Result<WireAttrs, NoMemory
     ensures short { IfOk result (λ w. All IsShort w.path) }
 {
     match said {
-        Said::Least => Ok(bare(alloc, hop, sequence(alloc, &[65001])?)),
+        Said::Least => least(alloc, hop, &[65001]),
         Said::Atomic => atomic(alloc, hop),
-        Said::Long => Ok(bare(alloc, hop, sequence(alloc, &[65001; 64])?)),
+        Said::Long => least(alloc, hop, &[65001; 64]),
         Said::Full => full(alloc, hop),
     }
+}
+
+fn least(alloc: Global, hop: Addr, numbers: &[u32]) -> Result<WireAttrs, NoMemory>
+    requires filled { 0 < length numbers.now }
+    requires short { length numbers.now ≤ 255 }
+    ensures hop { IfOk result (λ w. w.hop ≡ hop) }
+    ensures short { IfOk result (λ w. All IsShort w.path) }
+{
+    let path = sequence(alloc, numbers)?;
+    Ok(WireAttrs::new(alloc, hop, Origin::Igp, path))
 }
 
 fn atomic(alloc: Global, hop: Addr) -> Result<WireAttrs, NoMemory>
     ensures hop { IfOk result (λ w. w.hop ≡ hop) }
     ensures short { IfOk result (λ w. All IsShort w.path) }
 {
-    let mut attrs = bare(alloc, hop, sequence(alloc, &[65001])?);
+    let mut attrs = least(alloc, hop, &[65001])?;
     attrs.atomic = true;
     Ok(attrs)
 }
@@ -110,26 +142,6 @@ fn sequence_and_set(alloc: Global) -> Result<AsPath, NoMemory>
         numbers: list(alloc, &[64999, 65002])?,
     };
     Ok(AsPath::from_segments(vec![in alloc; first, second]?))
-}
-
-fn bare(alloc: Global, hop: Addr, path: AsPath) -> WireAttrs
-    ensures hop { result.hop ≡ hop }
-    ensures path { result.path ≡ path }
-{
-    WireAttrs {
-        hop,
-        origin: Origin::Igp,
-        path,
-        med: None,
-        local_pref: None,
-        atomic: false,
-        aggregator: None,
-        communities: U32s::new(alloc),
-        originator: None,
-        clusters: U32s::new(alloc),
-        extended: Exts::new(alloc),
-        large: Larges::new(alloc),
-    }
 }
 
 fn full(alloc: Global, hop: Addr) -> Result<WireAttrs, NoMemory>

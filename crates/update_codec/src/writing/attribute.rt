@@ -19,6 +19,7 @@ use attr_codec::Message;
 use attr_codec::codes::{
     EXTENDED_HEAD_LEN, EXTENDED_LENGTH, HEAD_LEN, LEN_OFFSET, OPTIONAL, SHORT_MAX,
 };
+use attr_codec::numbers::{read_u16, u16_bytes};
 use route_values::Key;
 
 /// Where the flags of an attribute stand (RFC 4271, section 4.3).
@@ -48,8 +49,7 @@ pub fn attribute_len(bytes: &[u8]) -> usize
     if bytes[FLAGS] & EXTENDED_LENGTH == 0 {
         HEAD_LEN + usize::from(bytes[LEN_OFFSET])
     } else {
-        EXTENDED_HEAD_LEN
-            + usize::from(u16::from_be_bytes([bytes[LEN_OFFSET], bytes[LEN_OFFSET + 1]]))
+        EXTENDED_HEAD_LEN + usize::from(read_u16(&bytes[LEN_OFFSET..]))
     }
 }
 
@@ -120,7 +120,7 @@ fn put_head(out: &mut Message, start: usize, code: u8, len: usize)
     if len > SHORT_END {
         let value_len = (len - EXTENDED_HEAD_LEN) as u16;
         out.overwrite(start, &[OPTIONAL + EXTENDED_LENGTH, code]);
-        out.overwrite(start + LEN_OFFSET, &value_len.to_be_bytes());
+        out.overwrite(start + LEN_OFFSET, &u16_bytes(value_len));
     } else {
         out.overwrite(start, &[OPTIONAL, code, (len - HEAD_LEN) as u8]);
     }

@@ -14,6 +14,7 @@ ghost use Rattle.attr_codec.specs.Buffer.{HasRoom, Appended};
 ghost use Rattle.update_codec.specs.Unsealed.{unsealed};
 
 use attr_codec::Message;
+use attr_codec::numbers::u16_bytes;
 
 /// The marker at the front of each message (RFC 4271, section 4.1).
 const MARKER: [u8; 16] = [255; 16];
@@ -42,7 +43,7 @@ pub fn put_frame(out: &mut Message, len: usize)
 {
     put_header(out, (FRAME_LEN + len) as u16);
     out.append(&NO_WITHDRAWN);
-    out.append(&(len as u16).to_be_bytes());
+    out.append_u16(len as u16);
 }
 
 /// Makes the lengths of the attributes and of the message right, where no prefix stands before or behind them.
@@ -54,7 +55,7 @@ pub fn close_attributes(out: &mut Message)
     ensures room { out.new.room ≡ out.old.room }
 {
     let len = out.bytes().len() - FRAME_LEN;
-    out.overwrite(ATTRIBUTES_LEN, &(len as u16).to_be_bytes());
+    out.overwrite(ATTRIBUTES_LEN, &u16_bytes(len as u16));
     out.seal();
 }
 
@@ -63,6 +64,6 @@ fn put_header(out: &mut Message, len: u16)
     ensures { Appended out.old out.new (header len 2) }
 {
     out.append(&MARKER);
-    out.append(&len.to_be_bytes());
+    out.append_u16(len);
     out.append(&[UPDATE]);
 }

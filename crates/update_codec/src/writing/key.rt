@@ -6,6 +6,7 @@ ghost use Rattle.attr_codec.specs.Buffer.{HasRoom, Appended};
 
 use attr_codec::Message;
 use attr_codec::codes::{BYTE_BITS, ID_LEN};
+use attr_codec::numbers::{u32_bytes, u128_bytes};
 use route_values::{Addr, Key, Prefix};
 
 /// How many bytes a prefix takes: its identifier, a bit count, and the fewest bytes that hold so many bits.
@@ -58,7 +59,7 @@ fn put_id(out: &mut Message, id: u32, path: bool)
     ensures { Appended out.old out.new (if path then to_be_bytes w32 id else []) }
 {
     if path {
-        out.append(&id.to_be_bytes());
+        out.append_u32(id);
     }
 }
 
@@ -70,7 +71,7 @@ fn put_block(out: &mut Message, prefix: &Prefix)
     let bytes = bytes_of(bits);
     out.append(&[bits]);
     match prefix.addr() {
-        Addr::V4(number) => out.append(&number.to_be_bytes()[..bytes]),
-        Addr::V6(number) => out.append(&number.to_be_bytes()[..bytes]),
+        Addr::V4(number) => out.append(&u32_bytes(number)[..bytes]),
+        Addr::V6(number) => out.append(&u128_bytes(number)[..bytes]),
     }
 }

@@ -1,12 +1,14 @@
 //! Messages without prefixes: those that prefixes are then put into, and End-of-RIB markers.
 ghost use Rattle.std.specs.Prelude.{◌≡◌, ◌+◌, ◌≤◌, ◌↔◌, [], All, length, IsTrue};
 ghost use Rattle.std.specs.Bool.{OnTrue, OnFalse};
-ghost use Rattle.route_values.specs.declared.caps.Caps.{Caps};
+ghost use Rattle.route_values.specs.Caps.{Caps};
 ghost use Rattle.route_values.specs.Addr.{family_of};
+ghost use Rattle.route_values.specs.Limits.{counts_sent, IsWithinLimits};
 ghost use Rattle.update_grammar.specs.Head as head;
-ghost use Rattle.update_grammar.specs.Written.{written};
+ghost use Rattle.update_grammar.specs.Written.{written, IsSendable};
 ghost use Rattle.attr_codec.specs.Buffer.{HasRoom, Appended};
 ghost use Rattle.attr_codec.specs.Sizes.{IsShort, attributes_size};
+ghost use Rattle.update_codec.specs.Open.{IsOpenHere, IsOpenGone};
 ghost use Rattle.update_codec.specs.Sizes.{empty_size};
 
 use super::frame::{FRAME_LEN, put_frame};
@@ -23,10 +25,15 @@ pub fn open_here(out: &mut Message, attrs: &WireAttrs, family: Family) -> bool
     requires room { 4096 ≤ out.old.room }
     requires hop { family_of attrs.now.hop ≡ family }
     requires short { All IsShort attrs.now.path }
+
+    // It fits exactly where the message has no more bytes than the room, so it does within the limits of a route.
     ensures fits { (caps : Caps) → IsTrue result ↔ (length (written caps (head.Here family attrs.now) []) ≤ out.old.room) }
     ensures size { IsTrue result ↔ (23 + attributes_size family attrs.now ≤ out.old.room) }
+    ensures within { IsSendable family attrs.now → IsWithinLimits (counts_sent attrs.now) → IsTrue result }
+
     ensures len { OnTrue result (length out.new.bytes ≡ 23 + attributes_size family attrs.now) }
     ensures ok { (caps : Caps) → OnTrue result (Appended out.old out.new (written caps (head.Here family attrs.now) [])) }
+    ensures open { (caps : Caps) → OnTrue result (IsOpenHere caps family out.new.bytes) }
     ensures refused { OnFalse result (out.new ≡ out.old) }
 {
     let len = attrs_len(attrs, family);
@@ -43,7 +50,8 @@ pub fn open_here(out: &mut Message, attrs: &WireAttrs, family: Family) -> bool
 pub fn open_gone(out: &mut Message, family: Family)
     requires empty { out.old.bytes ≡ [] }
     requires room { 4096 ≤ out.old.room }
-    ensures { (caps : Caps) → Appended out.old out.new (written caps (head.Gone family) []) }
+    ensures ok { (caps : Caps) → Appended out.old out.new (written caps (head.Gone family) []) }
+    ensures open { (caps : Caps) → IsOpenGone caps family out.new.bytes }
 {
     put_empty(out, family);
 }

@@ -18,7 +18,8 @@ ghost use Rattle.update_grammar.specs.Prefixes.{key_text};
 ghost use Rattle.update_grammar.specs.Written.{written, raw};
 ghost use Rattle.attr_codec.specs.Buffer.{HasRoom};
 ghost use Rattle.attr_codec.specs.Groups.{raws_text};
-ghost use Rattle.update_codec.specs.Reach.{IsOpenReach, HasReach};
+ghost use Rattle.update_codec.specs.Open.{IsOpenHere};
+ghost use Rattle.update_codec.specs.Reach.{HasReach};
 
 use super::attribute::{CODE, Place, attribute_len, growth, put_last};
 use super::frame::{FRAME_LEN, close_attributes};
@@ -33,16 +34,20 @@ use route_values::{Caps, Family, Key};
 /// where there is room for the prefix and one byte more.
 pub fn put_reach(out: &mut Message, caps: &Caps, key: &Key) -> bool
     requires family { family_of_key key.now ≡ Ipv6 }
-    requires open { IsOpenReach caps.now out.old.bytes }
+    requires open { IsOpenHere caps.now Ipv6 out.old.bytes }
+
+    // It fits exactly where the message with the prefix has no more bytes than the room.
     ensures fits { (w : WireAttrs) → (keys : List RouteKey) → out.old.bytes ≡ written caps.now (head.Here Ipv6 w) keys →
         IsTrue result ↔ (length (written caps.now (head.Here Ipv6 w) (keys ++ key.now ∷ [])) ≤ out.old.room) }
     ensures enough { HasRoom out.old (length (key_text caps.now.ipv6_path key.now) + 1) → IsTrue result }
+
+    // What is left where it fits, and where it doesn't.
     ensures ok { OnTrue result ((w : WireAttrs) → (keys : List RouteKey) →
         out.old.bytes ≡ written caps.now (head.Here Ipv6 w) keys →
         out.new.bytes ≡ written caps.now (head.Here Ipv6 w) (keys ++ key.now ∷ [])) }
     ensures least { OnTrue result (length out.old.bytes + length (key_text caps.now.ipv6_path key.now) ≤ length out.new.bytes) }
     ensures most { OnTrue result (length out.new.bytes ≤ length out.old.bytes + length (key_text caps.now.ipv6_path key.now) + 1) }
-    ensures still_open { IsOpenReach caps.now out.new.bytes }
+    ensures still_open { IsOpenHere caps.now Ipv6 out.new.bytes }
     ensures room { out.new.room ≡ out.old.room }
     ensures refused { OnFalse result (out.new ≡ out.old) }
 {

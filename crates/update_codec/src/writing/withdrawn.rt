@@ -21,13 +21,15 @@ ghost use Rattle.update_grammar.specs.Prefixes.{key_text};
 ghost use Rattle.update_grammar.specs.Update.{body};
 ghost use Rattle.update_grammar.specs.Written.{written, message, unreach_text};
 ghost use Rattle.attr_codec.specs.Buffer.{HasRoom};
-ghost use Rattle.update_codec.specs.Sizes.{empty_size, unreach_growth};
+ghost use Rattle.update_codec.specs.Open.{IsOpenGone};
+ghost use Rattle.update_codec.specs.Sizes.{unreach_growth};
 
 use super::attribute::{Place, growth, put_last};
 use super::frame::{FRAME_LEN, LEN_LEN, close_attributes};
 use super::key::{insert_key, key_len};
 use attr_codec::Message;
 use attr_codec::codes::MP_UNREACH_NLRI;
+use attr_codec::numbers::u16_bytes;
 use route_values::{Caps, Family, Key};
 
 /// Where the length of the withdrawn routes stands (RFC 4271, section 4.3).
@@ -37,17 +39,22 @@ const WITHDRAWN_LEN: usize = 19;
 /// where the session has path identifiers for the family. The length of an MP_UNREACH_NLRI has two bytes exactly where
 /// its value passes 255 bytes. Answers false, with `out` as it was, exactly where it doesn't fit.
 pub fn put_unreach(out: &mut Message, caps: &Caps, key: &Key) -> bool
-    requires open { empty_size (family_of_key key.now) ≤ length out.old.bytes }
+    requires open { IsOpenGone caps.now (family_of_key key.now) out.old.bytes }
+
+    // It fits exactly where the message with the prefix has no more bytes than the room.
     ensures fits { (keys : List RouteKey) →
         out.old.bytes ≡ written caps.now (head.Gone (family_of_key key.now)) keys →
         IsTrue result ↔ (length (written caps.now (head.Gone (family_of_key key.now)) (keys ++ key.now ∷ [])) ≤ out.old.room) }
     ensures size { IsTrue result ↔ HasRoom out.old (unreach_growth (family_of_key key.now) (length out.old.bytes)
         (length (key_text (has_path caps.now (family_of_key key.now)) key.now))) }
+
+    // What is left where it fits, and where it doesn't.
     ensures ok { OnTrue result ((keys : List RouteKey) →
         out.old.bytes ≡ written caps.now (head.Gone (family_of_key key.now)) keys →
         out.new.bytes ≡ written caps.now (head.Gone (family_of_key key.now)) (keys ++ key.now ∷ [])) }
     ensures len { OnTrue result (length out.new.bytes ≡ length out.old.bytes + unreach_growth (family_of_key key.now)
         (length out.old.bytes) (length (key_text (has_path caps.now (family_of_key key.now)) key.now))) }
+    ensures still_open { IsOpenGone caps.now (family_of_key key.now) out.new.bytes }
     ensures room { out.new.room ≡ out.old.room }
     ensures refused { OnFalse result (out.new ≡ out.old) }
 {
@@ -87,7 +94,7 @@ fn put_withdrawn(out: &mut Message, key: &Key, path: bool)
     let end = out.bytes().len();
     insert_key(out, end - LEN_LEN, key, path);
     let len = out.bytes().len();
-    out.overwrite(WITHDRAWN_LEN, &((len - FRAME_LEN) as u16).to_be_bytes());
+    out.overwrite(WITHDRAWN_LEN, &u16_bytes((len - FRAME_LEN) as u16));
     out.seal();
 }
 
