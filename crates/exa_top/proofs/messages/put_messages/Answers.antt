@@ -13,7 +13,7 @@ pub loop-index-init : goal.loop-index-init
 loop-index-init c = record {
   text = sym (append-nil c.args.text.now.items);
   spelled = λ k d within. absurd (omega (arith, within));
-  room = ap (λ b. b.room) c.new-message.ensures;
+  room = ap (λ b. b.room) c.in_ok-message.ensures;
 }
 
 pub loop-index-preserved : goal.loop-index-preserved
