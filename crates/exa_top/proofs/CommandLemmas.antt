@@ -31,7 +31,8 @@ other_verbs same =
     let first : 97 ≡ 119 = ap (λ text. get_or text 0 0) same in omega (arith, first)
 
 -- a line that begins with `announce` says nothing, where the rest is no announcement
-pub no_announcement : (words : List (List ℕ)) → ((prefix : Block) (hop : ℕ) → IsAnnouncement words prefix hop → ⊥) → (said : Command) → ReadsWords (codes "announce" ∷ words) said → ⊥
+pub no_announcement : (words : List (List ℕ)) → ((prefix : Block) (hop : ℕ) → IsAnnouncement words prefix hop → ⊥)
+    → (said : Command) → ReadsWords (codes "announce" ∷ words) said → ⊥
 no_announcement words none (Announce prefix hop) reads = none prefix hop (record {
   prefix_text = reads.0;
   hop_text = reads.1;
@@ -39,25 +40,31 @@ no_announcement words none (Announce prefix hop) reads = none prefix hop (record
   prefix_is = reads.3;
   hop_is = reads.4;
 })
-no_announcement words none (Withdraw prefix) reads = other_verbs (heads_are (codes "announce") (codes "withdraw") words _ reads.1)
+no_announcement words none (Withdraw prefix) reads = other_verbs
+    (heads_are (codes "announce") (codes "withdraw") words _ reads.1)
 
 -- a line that begins with `withdraw` says nothing, where the rest is no withdrawal
-pub no_withdrawal : (words : List (List ℕ)) → ((prefix : Block) → IsWithdrawal words prefix → ⊥) → (said : Command) → ReadsWords (codes "withdraw" ∷ words) said → ⊥
+pub no_withdrawal : (words : List (List ℕ)) → ((prefix : Block) → IsWithdrawal words prefix → ⊥) → (said : Command)
+    → ReadsWords (codes "withdraw" ∷ words) said → ⊥
 no_withdrawal words none (Withdraw prefix) reads = none prefix (record {
   prefix_text = reads.0;
   words_are = tails_are (codes "withdraw") (codes "withdraw") words _ reads.1;
   prefix_is = reads.2;
 })
-no_withdrawal words none (Announce prefix hop) reads = other_verbs (heads_are (codes "announce") (codes "withdraw") _ words (sym reads.2))
+no_withdrawal words none (Announce prefix hop) reads = other_verbs
+    (heads_are (codes "announce") (codes "withdraw") _ words (sym reads.2))
 
 -- the second word of words that begin with two known ones
-pub second_is : (words others more rest : List (List ℕ)) (first second first' second' : List ℕ) → words ≡ first ∷ others → others ≡ second ∷ more → words ≡ first' ∷ second' ∷ rest → second ≡ second'
+pub second_is : (words others more rest : List (List ℕ)) (first second first' second' : List ℕ) → words ≡ first ∷ others
+    → others ≡ second ∷ more → words ≡ first' ∷ second' ∷ rest → second ≡ second'
 second_is words others more rest first second first' second' begins goes_on are = cc
 
 -- what stands behind them
-pub behind_second : (words others more rest : List (List ℕ)) (first second first' second' : List ℕ) → words ≡ first ∷ others → others ≡ second ∷ more → words ≡ first' ∷ second' ∷ rest → more ≡ rest
+pub behind_second : (words others more rest : List (List ℕ)) (first second first' second' : List ℕ)
+    → words ≡ first ∷ others → others ≡ second ∷ more → words ≡ first' ∷ second' ∷ rest → more ≡ rest
 behind_second words others more rest first second first' second' begins goes_on are = cc
 
 -- the last of four words
-pub fourth_is : (words others more last : List (List ℕ)) (a b c d a' b' c' d' : List ℕ) → words ≡ a ∷ others → others ≡ b ∷ more → more ≡ c ∷ last → last ≡ d ∷ [] → words ≡ a' ∷ b' ∷ c' ∷ d' ∷ [] → d ≡ d'
+pub fourth_is : (words others more last : List (List ℕ)) (a b c d a' b' c' d' : List ℕ) → words ≡ a ∷ others
+    → others ≡ b ∷ more → more ≡ c ∷ last → last ≡ d ∷ [] → words ≡ a' ∷ b' ∷ c' ∷ d' ∷ [] → d ≡ d'
 fourth_is words others more last a b c d a' b' c' d' first second third fourth are = cc

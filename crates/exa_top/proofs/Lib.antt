@@ -5,5 +5,6 @@ pub mod NetLemmas
 pub mod SendingLemmas
 pub mod SlotLemmas
 pub mod TookLemmas
-pub mod TopLemmas
+pub mod AnsweredLemmas
+pub mod OutputLemmas
 pub mod WordLemmas

@@ -1,29 +1,28 @@
 -- What is sent for a route can be written, and is short.
-use Rattle.std.proofs.Common.{ℕ, ◌≡◌, ◌<◌, ◌≤◌, ◌+◌, ◌^◌, Bool, true, false, cond, List, [], ◌∷◌, length, take, arith, refl, Option, Some, None, All, nat_lt, is_some, inl, IsTrue, ◌⊎◌}
+use Rattle.std.proofs.Common.{ℕ, ◌≡◌, ◌<◌, ◌≤◌, ◌^◌, Bool, true, false, cond, List, [], ◌∷◌, length, arith, ap}
+use Rattle.std.proofs.Common.{sym, ◌∙◌}
+use Rattle.std.proofs.Common.{refl, Some, None, All, inl, IsTrue, ◌⊎◌}
 use Rattle.std.specs.List.{AllByRecursion}
 use Rattle.std.specs.Option.{IfSome}
 use Rattle.std.proofs.lemmas.List.Elements.{All-from_recursion}
-use Rattle.attr_codec.specs.Sizes.{IsShort, attributes_size, path_size, size_if, attr_size}
+use Rattle.attr_codec.specs.Sizes.{IsShort}
 use Rattle.route_values.specs.declared.addr.Addr.{Addr}
 use Rattle.route_values.specs.declared.addr.Addr.TheVariants.{V4, V6}
 use Rattle.route_values.specs.declared.addr.Family.TheVariants.{Ipv4}
+use Rattle.route_values.specs.declared.attrs.WireAttrs.{WireAttrs}
 use Rattle.route_values.specs.declared.path.Segment.{Segment}
 use Rattle.route_values.specs.declared.settings.Side.{Side}
 use Rattle.route_values.specs.Addr.{family_of}
+use Rattle.route_values.specs.Caps.{Caps}
 use Rattle.route_values.specs.Prefix.{Block, IsPrefix}
 use Rattle.route_values.specs.Sent.{is_internal}
 use Rattle.route_values.specs.Visible.{has_family, has_path}
 use Rattle.update_grammar.specs.Head as head
 use Rattle.update_grammar.specs.Laws.{HereIsSpelled}
-use Rattle.update_grammar.specs.Prefixes.{addr_bytes}
 use Rattle.update_grammar.specs.Values.{IsSegment, IsNumber}
 use Rattle.update_grammar.specs.Written.{written, IsSendable, IsCarried}
-use Rattle.exa_top.specs.Encoding.{attrs_of, sent_for, plain_caps, more_text}
+use Rattle.exa_top.specs.Encoding.{sent_for, plain_caps, more_text}
 use Rattle.exa_top.specs.Messages.{key_of, message_of, route_text, IsSpelled}
-
-pub length_addr : (a : Addr) → length (addr_bytes a) ≤ 16
-length_addr (V4 n) = omega arith
-length_addr (V6 n) = omega arith
 
 -- the path that is sent where none was written
 abbrev path_if : Bool → ℕ → List Segment
@@ -33,18 +32,20 @@ path_fits : (internal : Bool) (local_as : ℕ) → local_as < 2 ^ 32 → AllByRe
 path_fits true local_as small = tt
 path_fits false local_as small = (record { filled = omega arith; short = omega arith; numbers = (small, tt) }, tt)
 
-segments_short : (internal : Bool) (local_as : ℕ) → AllByRecursion IsShort (path_if internal local_as)
-segments_short true local_as = tt
-segments_short false local_as = (omega arith, tt)
-
 preference_fits : (internal : Bool) → IfSome (cond internal (Some 100) None) IsNumber
 preference_fits true = omega arith
 preference_fits false = tt
 
-pub path_is_short : (hop : ℕ) (side : Side) → All IsShort (sent_for side hop).path
-path_is_short hop side = All-from_recursion IsShort (path_if (is_internal side) side.local_as) (segments_short (is_internal side) side.local_as)
+short_segments : (path : List Segment) → AllByRecursion IsSegment path → AllByRecursion IsShort path
+short_segments [] segments = tt
+short_segments (s ∷ path) segments = (segments.0.short, short_segments path segments.1)
 
-sendable : (hop : ℕ) (side : Side) → hop < 2 ^ 32 → side.local_as < 2 ^ 32 → IsSendable Ipv4 (sent_for side hop)
+-- a path that can be sent has short segments
+pub path_is_short : (path : List Segment) → AllByRecursion IsSegment path → All IsShort path
+path_is_short path segments = All-from_recursion IsShort path (short_segments path segments)
+
+-- what is sent for a next hop has a text
+pub sendable : (hop : ℕ) (side : Side) → hop < 2 ^ 32 → side.local_as < 2 ^ 32 → IsSendable Ipv4 (sent_for side hop)
 sendable hop side small local_small = record {
   hop = record { of_family = refl; fits = small };
   path = path_fits (is_internal side) side.local_as local_small;
@@ -58,46 +59,44 @@ sendable hop side small local_small = record {
   large = tt;
 }
 
-visible_ipv4 : (addr : Addr) → family_of addr ≡ Ipv4 → IsTrue (has_family plain_caps (family_of addr)) × (let none : ℕ = 0 in (none ≡ 0) ⊎ IsTrue (has_path plain_caps (family_of addr)))
+visible_ipv4 : (addr : Addr) → family_of addr ≡ Ipv4 → IsTrue (has_family plain_caps (family_of addr))
+    × (let none : ℕ = 0 in (none ≡ 0) ⊎ IsTrue (has_path plain_caps (family_of addr)))
 visible_ipv4 (V4 n) is = (refl, inl refl)
 visible_ipv4 (V6 n) is = absurd (cc)
 
-carried : (prefix : Block) → family_of prefix.addr ≡ Ipv4 → IsPrefix prefix.addr prefix.len → IsCarried plain_caps Ipv4 (key_of prefix)
-carried prefix ipv4 canonical = record { of_family = ipv4; visible = visible_ipv4 prefix.addr ipv4; prefix = canonical; id = omega arith }
+carried : (prefix : Block) → family_of prefix.addr ≡ Ipv4 → IsPrefix prefix.addr prefix.len
+    → IsCarried plain_caps Ipv4 (key_of prefix)
+carried prefix ipv4 canonical = record {
+  of_family = ipv4;
+  visible = visible_ipv4 prefix.addr ipv4;
+  prefix = canonical;
+  id = omega arith;
+}
 
 -- by the grammar's law the message of a prefix spells its announcement
-pub message_spelled : HereIsSpelled Ipv4 → (side : Side) (prefix : Block) (hop : ℕ) → family_of prefix.addr ≡ Ipv4 → IsPrefix prefix.addr prefix.len → hop < 2 ^ 32 → side.local_as < 2 ^ 32
+pub message_spelled : HereIsSpelled Ipv4 → (side : Side) (prefix : Block) (hop : ℕ) → family_of prefix.addr ≡ Ipv4
+    → IsPrefix prefix.addr prefix.len → hop < 2 ^ 32 → side.local_as < 2 ^ 32
     → length (message_of side prefix hop) ≤ 4096 → IsSpelled side prefix hop
 unfolding message_of
 message_spelled law side prefix hop ipv4 canonical hop_small local_small short = record {
-  effect = law plain_caps (sent_for side hop) (key_of prefix ∷ []) (sendable hop side hop_small local_small) (carried prefix ipv4 canonical, tt) (omega (arith, short));
+  effect = law plain_caps (sent_for side hop) (key_of prefix ∷ []) (sendable hop side hop_small local_small)
+      (carried prefix ipv4 canonical, tt) (omega (arith, short));
   short = short;
 }
 
-path_small : (internal : Bool) (local_as : ℕ) → path_size (path_if internal local_as) ≤ 6
-path_small true local_as = omega arith
-path_small false local_as = omega arith
-
-head_small : (n : ℕ) (long : Bool) → cond long 4 3 + n ≤ n + 4
-head_small n true = omega arith
-head_small n false = omega arith
-
-attr_small : (n : ℕ) → attr_size n ≤ n + 4
-attr_small n = head_small n (nat_lt 255 n)
-
-preference_small : (internal : Bool) → let preference : ℕ = 100 in size_if (is_some (cond internal (Some preference) None)) 4 ≤ 7
-preference_small true = omega arith
-preference_small false = omega arith
-
-pub size_small : (hop : ℕ) (side : Side) → attributes_size Ipv4 (sent_for side hop) ≤ 4000
-size_small hop side =
-    let path : ℕ = path_size (path_if (is_internal side) side.local_as) in
-    omega (arith, path_small (is_internal side) side.local_as, attr_small path, preference_small (is_internal side))
-
-pub message_of-is : (side : Side) (prefix : Block) (hop : ℕ) → message_of side prefix hop ≡ written plain_caps (head.Here Ipv4 (sent_for side hop)) (key_of prefix ∷ [])
+pub message_of-is : (side : Side) (prefix : Block) (hop : ℕ)
+    → message_of side prefix hop ≡ written plain_caps (head.Here Ipv4 (sent_for side hop)) (key_of prefix ∷ [])
 unfolding message_of
 message_of-is side prefix hop = refl
 
-pub route_text-is : (side : Side) (prefix : Block) (hop : ℕ) → route_text side prefix hop ≡ more_text (message_of side prefix hop)
+-- what is written for what is sent is the message
+pub written_message : (caps : Caps) (w : WireAttrs) (side : Side) (prefix : Block) (hop : ℕ) → caps ≡ plain_caps
+    → w ≡ sent_for side hop → written caps (head.Here Ipv4 w) (key_of prefix ∷ []) ≡ message_of side prefix hop
+written_message caps w side prefix hop plain sent =
+    ap (λ c. written c (head.Here Ipv4 w) (key_of prefix ∷ [])) plain
+    ∙ ap (λ a. written plain_caps (head.Here Ipv4 a) (key_of prefix ∷ [])) sent ∙ sym (message_of-is side prefix hop)
+
+pub route_text-is : (side : Side) (prefix : Block) (hop : ℕ) → route_text side prefix hop
+    ≡ more_text (message_of side prefix hop)
 unfolding route_text
 route_text-is side prefix hop = refl

@@ -9,7 +9,8 @@ use Rattle.exa_top.specs.declared.command.Command.TheVariants.{Announce, Withdra
 -- what the words of a line say
 abbrev pub ReadsWords : List (List ℕ) → Command → Type 0
 ReadsWords words (Announce prefix hop) = (prefix_text : List ℕ) × (hop_text : List ℕ) ×
-    (words ≡ codes "announce" ∷ codes "route" ∷ prefix_text ∷ codes "next-hop" ∷ hop_text ∷ []) × IsPrefixText prefix_text prefix × IsIpv4 hop_text hop
+    (words ≡ codes "announce" ∷ codes "route" ∷ prefix_text ∷ codes "next-hop" ∷ hop_text ∷ [])
+    × IsPrefixText prefix_text prefix × IsIpv4 hop_text hop
 ReadsWords words (Withdraw prefix) = (prefix_text : List ℕ) ×
     (words ≡ codes "withdraw" ∷ codes "route" ∷ prefix_text ∷ []) × IsPrefixText prefix_text prefix
 

@@ -1,5 +1,6 @@
 -- What `encode` writes for what it reads.
-use Rattle.std.specs.Prelude.{ℕ, ◌≡◌, ◌≤◌, ◌==◌, codes, true, false, List, [], ◌∷◌, ◌++◌, Option, None, if◌then◌else◌, length}
+use Rattle.std.specs.Prelude.{ℕ, ◌≡◌, ◌≤◌, ◌==◌, codes, false, List, [], ◌∷◌, ◌++◌, Option, None, if◌then◌else◌}
+use Rattle.std.specs.Prelude.{length}
 use Rattle.std.specs.List.{flat_map, AllZip, AllByRecursion}
 use Rattle.std.specs.Option.{option_map}
 use Rattle.hex.specs.Hex.{encode_upper}
@@ -8,9 +9,10 @@ use Rattle.route_values.specs.declared.addr.Family.TheVariants.{Ipv4}
 use Rattle.route_values.specs.declared.attrs.Attrs.{Attrs}
 use Rattle.route_values.specs.declared.attrs.Hop.TheVariants.{Is}
 use Rattle.route_values.specs.declared.attrs.WireAttrs.{WireAttrs}
-use Rattle.route_values.specs.declared.caps.Caps.{Caps}
 use Rattle.route_values.specs.declared.key.Key.{Key}
 use Rattle.route_values.specs.declared.settings.Side.{Side}
+use Rattle.route_values.specs.Attrs.{unwritten}
+use Rattle.route_values.specs.Caps.{Caps, no_caps, with_family}
 use Rattle.route_values.specs.Sent.{sent}
 use Rattle.text_forms.specs.Lines.{lines}
 use Rattle.update_grammar.specs.declared.effect.Effect.{Effect}
@@ -23,20 +25,7 @@ use Rattle.exa_top.specs.Answers.{Entry, Answers, reply_text, hop_wanted}
 
 -- attributes of which a line gives the next hop alone
 abbrev pub attrs_of : ℕ → Attrs
-attrs_of hop = record {
-  hop = Is (V4 hop);
-  origin = None;
-  path = None;
-  med = None;
-  local_pref = None;
-  atomic = false;
-  aggregator = None;
-  communities = [];
-  originator = None;
-  clusters = [];
-  extended = [];
-  large = [];
-}
+attrs_of hop = unwritten (Is (V4 hop))
 
 -- what is sent for a next hop
 abbrev pub sent_for : Side → ℕ → WireAttrs
@@ -48,22 +37,18 @@ wanted side entries key = if 0 == key.id then option_map (sent_for side) (hop_wa
 
 -- a session of IPv4 unicast without path identifiers
 abbrev pub plain_caps : Caps
-plain_caps = record {
-  ipv4 = true;
-  ipv6 = false;
-  ipv4_path = false;
-  ipv6_path = false;
-  extended = false;
-}
+plain_caps = with_family no_caps Ipv4 false
 
 -- an UPDATE as it is written, of at most 4,096 bytes (RFC 4271, section 4)
 abbrev pub IsMessage : List ℕ → Type 0
-IsMessage message = (head : Head) × (keys : List Key) × (message ≡ written plain_caps head keys) × (length message ≤ 4096)
+IsMessage message = (head : Head) × (keys : List Key) × (message ≡ written plain_caps head keys)
+    × (length message ≤ 4096)
 
 -- each message's body spells effects; these are all of them, in order
 abbrev pub SpellAll : List (List ℕ) → List Effect → Type 0
 SpellAll [] effects = effects ≡ []
-SpellAll (m ∷ ms) effects = (first : List Effect) × (others : List Effect) × (effects ≡ first ++ others) × Spells plain_caps (body_of m) first × SpellAll ms others
+SpellAll (m ∷ ms) effects = (first : List Effect) × (others : List Effect) × (effects ≡ first ++ others)
+    × Spells plain_caps (body_of m) first × SpellAll ms others
 
 -- the End-of-RIB marker of IPv4
 abbrev pub marker : List ℕ

@@ -49,7 +49,8 @@ entry_of (Withdraw prefix) = Withdrawn prefix
 
 -- a table with one more entry, or the entry's prefix with another next hop
 abbrev pub IsPut : Block → Option ℕ → List (Block × Option ℕ) → List (Block × Option ℕ) → Type 0
-IsPut prefix hop old new = (other : Block) → slot_at new other ≡ (if same_block prefix other then Some hop else slot_at old other)
+IsPut prefix hop old new =
+    (other : Block) → slot_at new other ≡ (if same_block prefix other then Some hop else slot_at old other)
 
 -- a line was answered, and the table says what its answer says
 pub record Took (line : Line) (old new : List (Block × Option ℕ)) (reply : Reply) : Type 0 where

@@ -1,11 +1,22 @@
--- What a text command does to its input and its output.
-use Rattle.std.specs.Prelude.{ℕ, ◌≡◌, ◌⊎◌, ◌^◌, ◌<◌, codes, Bool, true, List, [], ◌++◌, length}
+-- What a text command does to its input and its output. Each device is seen before a call and after it; what is seen
+-- after the call has a prime.
+use Rattle.std.specs.Prelude.{ℕ, ◌≡◌, ◌⊎◌, ◌+◌, ◌^◌, ◌<◌, ◌≤◌, codes, true, List, [], ◌++◌, length}
+use Rattle.std.specs.List.{flat_map}
 use Rattle.std.specs.declared.option.Option.{Option}
-use Rattle.outside.specs.Told.{Grows}
+use Rattle.std.specs.declared.option.Option.TheVariants.{Some, None}
+use Rattle.outside.specs.Seen.{SourceSeen, SinkSeen}
+use Rattle.outside.specs.Told.{Grows, Shrinks, AreLeft, AreLeftFrom, CountsOne}
+use Rattle.exa_top.specs.declared.status.Status.{Status}
+use Rattle.exa_top.specs.declared.status.Status.TheVariants as status
 use Rattle.exa_top.specs.declared.words.TextCommand.{TextCommand}
 use Rattle.exa_top.specs.declared.words.TextCommand.TheVariants.{Encode, Help, Version}
+use Rattle.exa_top.specs.Answers.{reply_text}
 use Rattle.exa_top.specs.Encoding.{IsEncoding}
 use Rattle.exa_top.specs.Words.{IsCommand}
+
+-- how many bytes of input are too many
+abbrev pub input_limit : ℕ
+input_limit = 2 ^ 40
 
 -- what `--version` writes
 abbrev pub version_text : List ℕ
@@ -13,56 +24,114 @@ version_text = codes "exabgpd 0.1.0\n"
 
 -- what `--help` writes
 abbrev pub help_text : List ℕ
-help_text = codes "usage: exabgpd encode LOCAL_AS PEER_AS LOCAL_IP\n           reads announce and withdraw lines, writes replies and UPDATE messages\n       exabgpd --help\n           writes this text\n       exabgpd --version\n           writes the name and the version\n"
+help_text =
+    codes "usage: exabgpd encode LOCAL_AS PEER_AS LOCAL_IP\n"
+    ++ codes "           reads announce and withdraw lines, writes replies and UPDATE messages\n"
+    ++ codes "       exabgpd --help\n" ++ codes "           writes this text\n"
+    ++ codes "       exabgpd --version\n" ++ codes "           writes the name and the version\n"
 
--- the output that belongs to a command and what it read
-abbrev pub IsOutput : TextCommand → List ℕ → List ℕ → Type 0
-IsOutput (Encode side) input output = IsEncoding side input output
-IsOutput Help input output = output ≡ help_text
-IsOutput Version input output = output ≡ version_text
+-- The output that belongs to a command and what it read: what may be written while the input is read, and what only
+-- after its end. Replies to lines come early, and the messages late.
+abbrev pub IsOutput : TextCommand → List ℕ → List ℕ → List ℕ → Type 0
+IsOutput (Encode side) input early late =
+    (whole : IsEncoding side input (early ++ late)) × (early ≡ flat_map reply_text whole.entries)
+IsOutput Help input early late = (early ≡ help_text) × (late ≡ [])
+IsOutput Version input early late = (early ≡ version_text) × (late ≡ [])
 
--- the input that a command reads whole: `encode` to its end, which comes before 2^40 bytes, the others nothing
-abbrev pub ReadsWhole : TextCommand → Option (List ℕ) → Option (List ℕ) → Bool → Bool → List ℕ → Type 0
-ReadsWhole (Encode side) given gives ended ends input = Grows given gives input × (length input < 2 ^ 40) × (ends ≡ true)
-ReadsWhole Help given gives ended ends input = Grows given gives [] × (ends ≡ ended)
-ReadsWhole Version given gives ended ends input = Grows given gives [] × (ends ≡ ended)
+-- A source was read to its end, which came before the limit. Where it told what it had left, this was all of it.
+pub record ReadToEnd (source source' : SourceSeen) (bytes : List ℕ) : Type 0 where
+  pub given : Grows source.given source'.given bytes
+  pub left : Shrinks source.left source'.left bytes
+  pub whole : AreLeft source.left bytes
+  pub short : length bytes < input_limit
+  pub ended : source'.ended ≡ true
 
--- a command read its whole input and wrote its whole output
-pub record Ran (command : TextCommand) (given gives : Option (List ℕ)) (ended ends : Bool) (taken takes : Option (List ℕ)) : Type 0 where
+-- what a command that ends well reads: `encode` its input to the end, the others nothing
+abbrev pub ReadsWhole : TextCommand → SourceSeen → SourceSeen → List ℕ → Type 0
+ReadsWhole (Encode side) source source' bytes = ReadToEnd source source' bytes
+ReadsWhole Help source source' bytes = (source' ≡ source) × (bytes ≡ [])
+ReadsWhole Version source source' bytes = (source' ≡ source) × (bytes ≡ [])
+
+-- a command read its whole input and wrote the whole output that belongs to it
+pub record Ran (command : TextCommand) (source source' : SourceSeen) (sink sink' : SinkSeen) : Type 0 where
   pub input : List ℕ
-  pub output : List ℕ
-  pub read : ReadsWhole command given gives ended ends input
-  pub written : Grows taken takes output
-  pub outcome : IsOutput command input output
+  pub early : List ℕ
+  pub late : List ℕ
+  pub read : ReadsWhole command source source' input
+  pub outcome : IsOutput command input early late
+  pub written : Grows sink.taken sink'.taken (early ++ late)
 
--- a command read some input and wrote the front of the output that belongs to it
-pub record Broke (command : TextCommand) (given gives taken takes : Option (List ℕ)) : Type 0 where
+-- a source gave some bytes, no more than the limit
+pub record ReadPart (source source' : SourceSeen) (bytes : List ℕ) : Type 0 where
+  pub given : Grows source.given source'.given bytes
+  pub left : Shrinks source.left source'.left bytes
+  pub short : length bytes ≤ input_limit
+
+-- A command read a part of its input and wrote a front part of the output that belongs to what it read. It wrote more
+-- than what may be written early only where it met the input's end.
+pub record Broke (command : TextCommand) (source source' : SourceSeen) (sink sink' : SinkSeen) : Type 0 where
   pub input : List ℕ
+  pub early : List ℕ
+  pub late : List ℕ
   pub part : List ℕ
-  pub rest : List ℕ
-  pub read : Grows given gives input
-  pub written : Grows taken takes part
-  pub outcome : IsOutput command input (part ++ rest)
+  pub read : ReadPart source source' input
+  pub outcome : IsOutput command input early late
+  pub front : (rest : List ℕ) × (early ++ late ≡ part ++ rest)
+  pub written : Grows sink.taken sink'.taken part
+  pub ended : length early < length part → source'.ended ≡ true
 
--- a command that didn't end well wrote nothing, or the front of an output
-abbrev pub Stopped : TextCommand → Option (List ℕ) → Option (List ℕ) → Option (List ℕ) → Option (List ℕ) → Type 0
-Stopped command given gives taken takes = Grows taken takes [] ⊎ Broke command given gives taken takes
+-- a source gave as many bytes as the limit, had as many left, and didn't end
+pub record GaveLimit (limit : ℕ) (source source' : SourceSeen) : Type 0 where
+  pub bytes : List ℕ
+  pub given : Grows source.given source'.given bytes
+  pub full : length bytes ≡ limit
+  pub left : AreLeftFrom source.left limit
+  pub unended : source'.ended ≡ source.ended
 
--- the words spell a command that ended well
-abbrev pub Finished : List (List ℕ) → Option (List ℕ) → Option (List ℕ) → Bool → Bool → Option (List ℕ) → Option (List ℕ) → Type 0
-Finished words given gives ended ends taken takes = (command : TextCommand) × IsCommand words command × Ran command given gives ended ends taken takes
+-- the bytes given are told, and have grown by so many or more
+abbrev pub GaveFrom : ℕ → Option (List ℕ) → Option (List ℕ) → Type 0
+GaveFrom limit None now = ⊥
+GaveFrom limit (Some was) None = ⊥
+GaveFrom limit (Some was) (Some now) = length was + limit ≤ length now
 
--- nothing was written, or the words spell a command that wrote the front of an output
-abbrev pub Began : List (List ℕ) → Option (List ℕ) → Option (List ℕ) → Option (List ℕ) → Option (List ℕ) → Type 0
-Began words given gives taken takes = Grows taken takes [] ⊎ ((command : TextCommand) × IsCommand words command × Broke command given gives taken takes)
+-- how a command ends that was given as many bytes as the limit
+abbrev pub IsOverrun : Status → Type 0
+IsOverrun ends = (ends ≡ status.InputLong) ⊎ (ends ≡ status.ReadFault) ⊎ (ends ≡ status.NoMemory)
+
+-- the status of a command that was run, and what its devices then show
+pub record Answered (command : TextCommand) (source source' : SourceSeen) (sink sink' : SinkSeen)
+    (ends : Status) : Type 0 where
+  pub spelled : ¬ (ends ≡ status.Usage)
+  pub ok : ends ≡ status.Ok → Ran command source source' sink sink'
+  pub broke : ¬ (ends ≡ status.Ok) → Broke command source source' sink sink'
+  pub read : ends ≡ status.ReadFault → CountsOne source.faults source'.faults
+  pub read_same : ¬ (ends ≡ status.ReadFault) → source'.faults ≡ source.faults
+  pub write : ends ≡ status.WriteFault → CountsOne sink.faults sink'.faults
+  pub write_same : ¬ (ends ≡ status.WriteFault) → sink'.faults ≡ sink.faults
+  pub long : ends ≡ status.InputLong → GaveLimit input_limit source source'
+  pub over : GaveFrom input_limit source.given source'.given → IsOverrun ends
+
+-- the words spell a command, which read its whole input and wrote its whole output
+abbrev pub Finished : List (List ℕ) → SourceSeen → SourceSeen → SinkSeen → SinkSeen → Type 0
+Finished words source source' sink sink' =
+    (command : TextCommand) × IsCommand words command × Ran command source source' sink sink'
+
+-- the words spell a command, which read a part of its input and wrote a front part of its output
+abbrev pub Began : List (List ℕ) → SourceSeen → SourceSeen → SinkSeen → SinkSeen → Type 0
+Began words source source' sink sink' =
+    (command : TextCommand) × IsCommand words command × Broke command source source' sink sink'
+
+-- a source tells what it has left, and that is fewer bytes than the limit
+abbrev pub IsLeftShort : ℕ → Option (List ℕ) → Type 0
+IsLeftShort limit None = ⊥
+IsLeftShort limit (Some rest) = length rest < limit
 
 -- a sink took the front of a text
 abbrev pub TookPart : Option (List ℕ) → Option (List ℕ) → List ℕ → Type 0
-TookPart taken takes text = (part : List ℕ) × (rest : List ℕ) × (text ≡ part ++ rest) × Grows taken takes part
+TookPart taken taken' text = (part : List ℕ) × (rest : List ℕ) × (text ≡ part ++ rest) × Grows taken taken' part
 
--- so many bytes were given, and the end wasn't met
-pub record GaveLimit (limit : ℕ) (given gives : Option (List ℕ)) (ended ends : Bool) : Type 0 where
-  pub input : List ℕ
-  pub read : Grows given gives input
-  pub full : length input ≡ limit
-  pub unended : ends ≡ ended
+-- a text was written whole, or its front, and then the sink failed
+abbrev pub Wrote : List ℕ → SinkSeen → SinkSeen → Status → Type 0
+Wrote text sink sink' status.Ok = Grows sink.taken sink'.taken text × (sink'.faults ≡ sink.faults)
+Wrote text sink sink' status.WriteFault = TookPart sink.taken sink'.taken text × CountsOne sink.faults sink'.faults
+Wrote text sink sink' _ = ⊥

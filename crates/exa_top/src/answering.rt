@@ -63,7 +63,8 @@ fn enter(table: &mut Table, command: Command) -> Reply
     requires table { IsTable table.old.entries }
     requires slot { IsSlot (slot_of command) }
     ensures table { IsTable table.new.entries }
-    ensures done { result ≡ Reply.Done → IsPut (slot_of command).0 (slot_of command).1 table.old.entries table.new.entries }
+    ensures done { result ≡ Reply.Done → IsPut (slot_of command).0 (slot_of command).1
+        table.old.entries table.new.entries }
     ensures full { result ≡ Reply.NoMemory → table.new.entries ≡ table.old.entries }
     ensures read { result ≡ Reply.Error → ⊥ }
 {

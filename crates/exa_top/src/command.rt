@@ -33,54 +33,37 @@ pub fn command_in(line: &[u8]) -> Option<Command>
 // `route PREFIX next-hop IPV4`
 fn announce(text: &[u8]) -> Option<Command>
     ensures found { IfSome result (λ said. ReadsWords (codes "announce" ∷ words_of text.now) said) }
-    ensures none { IfNone result ((said : Said) → ReadsWords (codes "announce" ∷ words_of text.now) said → ⊥) }
+    ensures none { IfNone result
+        ((said : Said) → ReadsWords (codes "announce" ∷ words_of text.now) said → ⊥) }
 {
-    let Some(operands) = behind(text, b"route") else {
-        return None;
-    };
-    let Some((prefix_text, items)) = first_word(operands) else {
-        return None;
-    };
-    let Some(hops) = behind(items, b"next-hop") else {
-        return None;
-    };
-    let Some(hop_text) = only_word(hops) else {
-        return None;
-    };
-    let Some(prefix) = ipv4_prefix(prefix_text) else {
-        return None;
-    };
-    let Some(hop) = ipv4(hop_text) else {
-        return None;
-    };
+    let operands = behind(text, b"route")?;
+    let (prefix_text, items) = first_word(operands)?;
+    let hops = behind(items, b"next-hop")?;
+    let hop_text = only_word(hops)?;
+    let prefix = ipv4_prefix(prefix_text)?;
+    let hop = ipv4(hop_text)?;
     Some(Command::Announce(prefix, hop))
 }
 
 // `route PREFIX`
 fn withdraw(text: &[u8]) -> Option<Command>
     ensures found { IfSome result (λ said. ReadsWords (codes "withdraw" ∷ words_of text.now) said) }
-    ensures none { IfNone result ((said : Said) → ReadsWords (codes "withdraw" ∷ words_of text.now) said → ⊥) }
+    ensures none { IfNone result
+        ((said : Said) → ReadsWords (codes "withdraw" ∷ words_of text.now) said → ⊥) }
 {
-    let Some(operands) = behind(text, b"route") else {
-        return None;
-    };
-    let Some(prefix_text) = only_word(operands) else {
-        return None;
-    };
-    let Some(prefix) = ipv4_prefix(prefix_text) else {
-        return None;
-    };
+    let operands = behind(text, b"route")?;
+    let prefix_text = only_word(operands)?;
+    let prefix = ipv4_prefix(prefix_text)?;
     Some(Command::Withdraw(prefix))
 }
 
 // What stands behind the first word, where that is this one.
 fn behind<'a>(text: &'a [u8], word: &[u8]) -> Option<&'a [u8]>
     ensures found { IfSome result (λ rest. words_of text.now ≡ word.now ∷ words_of rest.now) }
-    ensures none { IfNone result ((others : List (List ℕ)) → words_of text.now ≡ word.now ∷ others → ⊥) }
+    ensures none { IfNone result
+        ((others : List (List ℕ)) → words_of text.now ≡ word.now ∷ others → ⊥) }
 {
-    let Some((first, rest)) = first_word(text) else {
-        return None;
-    };
+    let (first, rest) = first_word(text)?;
     if is(first, word) { Some(rest) } else { None }
 }
 
@@ -89,9 +72,7 @@ fn only_word(text: &[u8]) -> Option<&[u8]>
     ensures found { IfSome result (λ word. words_of text.now ≡ word.now ∷ []) }
     ensures none { IfNone result ((word : List ℕ) → words_of text.now ≡ word ∷ [] → ⊥) }
 {
-    let Some((word, rest)) = first_word(text) else {
-        return None;
-    };
+    let (word, rest) = first_word(text)?;
     match first_word(rest) {
         Some(_) => None,
         None => Some(word),

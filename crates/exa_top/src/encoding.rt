@@ -13,6 +13,7 @@ use update_grammar::written_is_spelled;
 pub fn encode_all(alloc: Global, side: &Side, input: &[u8]) -> Result<Vec<u8>, NoMemory>
     ensures { IfOk result (λ text. IsEncoding side.now input.now text.items) }
 {
+    // For the proof: the law that a written message spells what was meant.
     written_is_spelled();
     let mut text = Vec::new(alloc);
     let mut table = empty_table(alloc);

@@ -17,6 +17,9 @@ struct Outcome {
     writes_failed: u64,
 }
 
+/// How many bytes the sink of a test keeps.
+const ROOM: usize = 1 << 20;
+
 /// Runs a command whose listed reads and writes fail, and whose sink takes 20 bytes a call.
 fn run(
     alloc: Global,
@@ -27,7 +30,7 @@ fn run(
 ) -> Result<Outcome, Fail> {
     let mut files = SureFiles::new(&[]);
     let mut source = MemorySource::new(input.as_bytes(), failing_reads);
-    let mut sink = MemorySink::in_steps(alloc, 10_000, 20, failing_writes)?;
+    let mut sink = MemorySink::in_steps(alloc, ROOM, 20, failing_writes)?;
     let status = exabgp_text(alloc, words, &mut files, &mut source, &mut sink);
     let bytes = sink.bytes().ok_or("the sink has room")?;
     Ok(Outcome {
@@ -158,4 +161,76 @@ fn a_fault_of_the_outside_ends_the_command(rt: HostRuntime) -> Result<(), Fail> 
     assert_eq!(rt; unwritten.output.as_str(), "done\nupdate 0 more F");
     assert_eq!(rt; unwritten.writes_failed, 1);
     Ok(())
+}
+
+/// A text filled up with spaces to so many bytes, as a line.
+fn line_of(alloc: Global, text: &str, count: usize) -> Result<String, Fail> {
+    let mut line = String::new(alloc);
+    line.push_str(text)?;
+    for _ in text.len()..count {
+        line.push(' ')?;
+    }
+    line.push('\n')?;
+    Ok(line)
+}
+
+#[test]
+fn a_line_has_65535_bytes_at_most_and_a_longer_one_is_an_error(
+    rt: HostRuntime,
+) -> Result<(), Fail> {
+    let words = ["encode", "65001", "65002", "192.0.2.9"];
+    let table: [(&str, usize, &str); 4] = [
+        ("withdraw route 10.0.0.0/24", 65_535, "done\n"),
+        ("withdraw route 10.0.0.0/24", 65_536, "error\n"),
+        ("announce route 10.0.0.0/24", 65_535, "error\n"),
+        ("announce route 10.0.0.0/24", 65_536, "error\n"),
+    ];
+    for (text, count, reply) in table {
+        let line = line_of(rt.alloc(), text, count)?;
+        let done = run(rt.alloc(), &words, line.as_str(), &[], &[])?;
+        let mut wanted = String::new(rt.alloc());
+        wanted.push_str(reply)?;
+        wanted.push_str(END)?;
+        assert_eq!(rt; done.status, Status::Ok, "{text}, {count}");
+        assert_eq!(rt; done.output.as_str(), wanted.as_str(), "{text}, {count}");
+    }
+    Ok(())
+}
+
+#[test]
+fn memory_suffices_for_a_mebibyte_and_a_thousand_prefixes(rt: HostRuntime) -> Result<(), Fail> {
+    let words = ["encode", "65001", "65002", "192.0.2.9"];
+    let mut input = String::new(rt.alloc());
+    let mut replies = String::new(rt.alloc());
+    for number in 0..1_100 {
+        let (high, low) = (number / 256, number % 256);
+        let text = format!(in rt.alloc();
+            "announce route 10.{high}.{low}.0/24 next-hop 192.0.2.1"
+        )?;
+        input.push_str(line_of(rt.alloc(), text.as_str(), 1_000)?.as_str())?;
+        replies.push_str("done\n")?;
+    }
+    let done = run(rt.alloc(), &words, input.as_str(), &[], &[])?;
+    assert!(rt; input.len() > 1 << 20);
+    assert_eq!(rt; done.status, Status::Ok);
+    assert!(rt; done.output.as_str().starts_with(replies.as_str()));
+    assert_eq!(rt; done.output.as_str().lines().count(), 2 * 1_100 + 1);
+    assert!(rt; done.output.as_str().ends_with(END));
+    Ok(())
+}
+
+#[test]
+fn each_status_has_its_number_and_its_text(rt: HostRuntime) {
+    let table: [(Status, u8, Option<&str>); 6] = [
+        (Status::Ok, 0, None),
+        (Status::Usage, 2, Some("usage")),
+        (Status::ReadFault, 6, Some("read fault")),
+        (Status::WriteFault, 7, Some("write fault")),
+        (Status::NoMemory, 9, Some("no memory")),
+        (Status::InputLong, 10, Some("input too long")),
+    ];
+    for (status, number, text) in table {
+        assert_eq!(rt; status.number(), number);
+        assert!(rt; status.text() == text);
+    }
 }

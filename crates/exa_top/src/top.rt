@@ -1,10 +1,12 @@
 //! The top call.
-ghost use Rattle.std.specs.Prelude.{◌≡◌, ◌^◌, map};
-ghost use Rattle.exa_top.specs.Top.{Began, Finished, GaveLimit, Ran, Stopped, TookPart};
+ghost use Rattle.std.specs.Prelude.{◌≡◌, ◌⊎◌, map};
+ghost use Rattle.exa_top.specs.Top.{Answered, Began, Finished, GaveFrom, GaveLimit, IsLeftShort};
+ghost use Rattle.exa_top.specs.Top.{IsOverrun, Wrote, input_limit};
 ghost use Rattle.exa_top.specs.Words.{IsCommand};
 ghost use Rattle.exa_top.specs.declared.words.TextCommand.{TextCommand as Spelled};
 ghost use Rattle.exa_top.specs.declared.words.TextCommand.TheVariants.{Encode};
-ghost use Rattle.outside.specs.Told.{Grows, Rose};
+ghost use Rattle.outside.specs.Seen.{source_seen, sink_seen};
+ghost use Rattle.outside.specs.Told.{CountsOne, Rose};
 
 use crate::encoding::encode_all;
 use crate::status::Status;
@@ -12,6 +14,7 @@ use crate::words::{TextCommand, text_command};
 use outside::{Files, Sink, Source, Unread, read_all, write_all};
 use route_values::Side;
 use std::alloc::Global;
+use update_grammar::written_is_spelled;
 
 /// How many bytes of input are too many.
 const MAX_INPUT: usize = 1 << 40;
@@ -20,8 +23,12 @@ const MAX_INPUT: usize = 1 << 40;
 const VERSION: &[u8] = b"exabgpd 0.1.0\n";
 
 /// What `--help` writes.
-const HELP: &[u8] =
-    b"usage: exabgpd encode LOCAL_AS PEER_AS LOCAL_IP\n           reads announce and withdraw lines, writes replies and UPDATE messages\n       exabgpd --help\n           writes this text\n       exabgpd --version\n           writes the name and the version\n";
+const HELP: &[u8] = b"usage: exabgpd encode LOCAL_AS PEER_AS LOCAL_IP\n\
+\x20          reads announce and withdraw lines, writes replies and UPDATE messages\n\
+\x20      exabgpd --help\n\
+\x20          writes this text\n\
+\x20      exabgpd --version\n\
+\x20          writes the name and the version\n";
 
 /// Runs the text command that the words spell.
 ///
@@ -30,7 +37,8 @@ const HELP: &[u8] =
 /// the lines say, each as a line `update 0 more HEX`; the last is the End-of-RIB marker, as `update 0 last HEX`.
 /// `--help` and `--version` write their texts. Any other words are `Usage`, and nothing is read or written.
 ///
-/// With another status than `Ok` the output is a front part of what it would have been.
+/// With another status than `Ok` the output is a front part of one that belongs to what was read. Messages come in it
+/// only where the input's end was met.
 pub fn exabgp_text<F: Files, S: Source, K: Sink>(
     alloc: Global,
     words: &[&str],
@@ -38,18 +46,50 @@ pub fn exabgp_text<F: Files, S: Source, K: Sink>(
     input: &mut S,
     output: &mut K,
 ) -> Status
-    ensures ok { result ≡ Status.Ok →
-        Finished (map (λ w. w.now) words.now) (S.given input.old) (S.given input.new) (S.ended input.old) (S.ended input.new) (K.taken output.old) (K.taken output.new) }
-    ensures usage { (result ≡ Status.Usage) → (command : Spelled) → IsCommand (map (λ w. w.now) words.now) command → ⊥ }
-    ensures only_usage { ((command : Spelled) → IsCommand (map (λ w. w.now) words.now) command → ⊥) → result ≡ Status.Usage }
-    ensures read { result ≡ Status.ReadFault → Rose (S.faults input.old) (S.faults input.new) }
-    ensures write { result ≡ Status.WriteFault → Rose (K.faults output.old) (K.faults output.new) }
-    ensures long { result ≡ Status.InputLong → GaveLimit (2 ^ 40) (S.given input.old) (S.given input.new) (S.ended input.old) (S.ended input.new) }
-    ensures began { ¬ (result ≡ Status.Ok) →
-        Began (map (λ w. w.now) words.now) (S.given input.old) (S.given input.new) (K.taken output.old) (K.taken output.new) }
+    // Words that spell no command.
+    ensures usage { (result ≡ Status.Usage) → (command : Spelled)
+        → IsCommand (map (λ w. w.now) words.now) command → ⊥ }
+    ensures only_usage { ((command : Spelled) → IsCommand (map (λ w. w.now) words.now) command → ⊥)
+        → result ≡ Status.Usage }
+    ensures untouched { result ≡ Status.Usage
+        → (input.new ≡ input.old) × (output.new ≡ output.old) }
+
+    // What was read and written.
+    ensures ok { result ≡ Status.Ok → Finished (map (λ w. w.now) words.now)
+        (source_seen S.given S.left S.ended S.faults input.old)
+        (source_seen S.given S.left S.ended S.faults input.new)
+        (sink_seen K.taken K.faults output.old) (sink_seen K.taken K.faults output.new) }
+    ensures began { ¬ (result ≡ Status.Ok) → ¬ (result ≡ Status.Usage)
+        → Began (map (λ w. w.now) words.now)
+        (source_seen S.given S.left S.ended S.faults input.old)
+        (source_seen S.given S.left S.ended S.faults input.new)
+        (sink_seen K.taken K.faults output.old) (sink_seen K.taken K.faults output.new) }
     ensures files { files.new ≡ files.old }
-    ensures untouched { result ≡ Status.Usage → (input.new ≡ input.old) × (output.new ≡ output.old) }
+
+    // A fault's status counts one fault, and any other leaves the count.
+    ensures read { result ≡ Status.ReadFault
+        → CountsOne (S.faults input.old) (S.faults input.new) }
+    ensures read_same { ¬ (result ≡ Status.ReadFault) → S.faults input.new ≡ S.faults input.old }
+    ensures write { result ≡ Status.WriteFault
+        → CountsOne (K.faults output.old) (K.faults output.new) }
+    ensures write_same { ¬ (result ≡ Status.WriteFault)
+        → K.faults output.new ≡ K.faults output.old }
+
+    // Too long is what gave as many bytes as the limit and didn't end.
+    ensures long { result ≡ Status.InputLong → GaveLimit input_limit
+        (source_seen S.given S.left S.ended S.faults input.old)
+        (source_seen S.given S.left S.ended S.faults input.new) }
+    ensures over { GaveFrom input_limit (S.given input.old) (S.given input.new)
+        → IsOverrun result }
+
+    // A command is run to its end where the input ends in time and no device fails, if memory suffices.
+    ensures complete { (command : Spelled) → IsCommand (map (λ w. w.now) words.now) command
+        → IsLeftShort input_limit (S.left input.old)
+        → ¬ Rose (S.faults input.old) (S.faults input.new)
+        → ¬ Rose (K.faults output.old) (K.faults output.new)
+        → (result ≡ Status.Ok) ⊎ (result ≡ Status.NoMemory) }
 {
+    // No command opens a file yet.
     let _ = files;
     match text_command(words) {
         Some(command) => run(alloc, command, input, output),
@@ -64,14 +104,10 @@ fn run<S: Source, K: Sink>(
     input: &mut S,
     output: &mut K,
 ) -> Status
-    ensures ok { result ≡ Status.Ok →
-        Ran command (S.given input.old) (S.given input.new) (S.ended input.old) (S.ended input.new) (K.taken output.old) (K.taken output.new) }
-    ensures usage { ¬ (result ≡ Status.Usage) }
-    ensures read { result ≡ Status.ReadFault → Rose (S.faults input.old) (S.faults input.new) }
-    ensures write { result ≡ Status.WriteFault → Rose (K.faults output.old) (K.faults output.new) }
-    ensures long { result ≡ Status.InputLong → GaveLimit (2 ^ 40) (S.given input.old) (S.given input.new) (S.ended input.old) (S.ended input.new) }
-    ensures began { ¬ (result ≡ Status.Ok) →
-        Stopped command (S.given input.old) (S.given input.new) (K.taken output.old) (K.taken output.new) }
+    ensures { Answered command
+        (source_seen S.given S.left S.ended S.faults input.old)
+        (source_seen S.given S.left S.ended S.faults input.new)
+        (sink_seen K.taken K.faults output.old) (sink_seen K.taken K.faults output.new) result }
 {
     match command {
         TextCommand::Encode(side) => encode(alloc, &side, input, output),
@@ -82,15 +118,13 @@ fn run<S: Source, K: Sink>(
 
 // Reads lines to the end of the input, and writes what answers them.
 fn encode<S: Source, K: Sink>(alloc: Global, side: &Side, input: &mut S, output: &mut K) -> Status
-    ensures ok { result ≡ Status.Ok →
-        Ran (Encode side.now) (S.given input.old) (S.given input.new) (S.ended input.old) (S.ended input.new) (K.taken output.old) (K.taken output.new) }
-    ensures usage { ¬ (result ≡ Status.Usage) }
-    ensures read { result ≡ Status.ReadFault → Rose (S.faults input.old) (S.faults input.new) }
-    ensures write { result ≡ Status.WriteFault → Rose (K.faults output.old) (K.faults output.new) }
-    ensures long { result ≡ Status.InputLong → GaveLimit (2 ^ 40) (S.given input.old) (S.given input.new) (S.ended input.old) (S.ended input.new) }
-    ensures began { ¬ (result ≡ Status.Ok) →
-        Stopped (Encode side.now) (S.given input.old) (S.given input.new) (K.taken output.old) (K.taken output.new) }
+    ensures { Answered (Encode side.now)
+        (source_seen S.given S.left S.ended S.faults input.old)
+        (source_seen S.given S.left S.ended S.faults input.new)
+        (sink_seen K.taken K.faults output.old) (sink_seen K.taken K.faults output.new) result }
 {
+    // For the proof: by the law some output belongs to what was read, also where none is made.
+    written_is_spelled();
     let bytes = match read_all(alloc, input, MAX_INPUT) {
         Ok(bytes) => bytes,
         Err(Unread::Memory) => return Status::NoMemory,
@@ -105,10 +139,8 @@ fn encode<S: Source, K: Sink>(alloc: Global, side: &Side, input: &mut S, output:
 
 // Writes a whole text.
 fn write_text<K: Sink>(output: &mut K, text: &[u8]) -> Status
-    ensures ok { result ≡ Status.Ok → Grows (K.taken output.old) (K.taken output.new) text.now }
-    ensures only { ¬ (result ≡ Status.Ok) → result ≡ Status.WriteFault }
-    ensures write { result ≡ Status.WriteFault → Rose (K.faults output.old) (K.faults output.new) }
-    ensures part { result ≡ Status.WriteFault → TookPart (K.taken output.old) (K.taken output.new) text.now }
+    ensures { Wrote text.now (sink_seen K.taken K.faults output.old)
+        (sink_seen K.taken K.faults output.new) result }
 {
     match write_all(output, text) {
         Ok(()) => Status::Ok,

@@ -22,11 +22,10 @@ pub enum TextCommand {
 /// The command that the words spell, or None where they spell none.
 pub fn text_command(words: &[&str]) -> Option<TextCommand>
     ensures found { IfSome result (λ spelled. IsCommand (map (λ w. w.now) words.now) spelled) }
-    ensures none { IfNone result ((spelled : Spelled) → IsCommand (map (λ w. w.now) words.now) spelled → ⊥) }
+    ensures none { IfNone result
+        ((spelled : Spelled) → IsCommand (map (λ w. w.now) words.now) spelled → ⊥) }
 {
-    let Some((name, operands)) = words.split_first() else {
-        return None;
-    };
+    let (name, operands) = words.split_first()?;
     if is(name.as_bytes(), b"encode") {
         return encode_of(operands);
     }
@@ -43,8 +42,10 @@ pub fn text_command(words: &[&str]) -> Option<TextCommand>
 }
 
 fn encode_of(operands: &[&str]) -> Option<TextCommand>
-    ensures found { IfSome result (λ spelled. IsCommand (codes "encode" ∷ map (λ w. w.now) operands.now) spelled) }
-    ensures none { IfNone result ((spelled : Spelled) → IsCommand (codes "encode" ∷ map (λ w. w.now) operands.now) spelled → ⊥) }
+    ensures found { IfSome result
+        (λ spelled. IsCommand (codes "encode" ∷ map (λ w. w.now) operands.now) spelled) }
+    ensures none { IfNone result ((spelled : Spelled)
+        → IsCommand (codes "encode" ∷ map (λ w. w.now) operands.now) spelled → ⊥) }
 {
     match side_of(operands) {
         Some(side) => Some(TextCommand::Encode(side)),
@@ -54,18 +55,14 @@ fn encode_of(operands: &[&str]) -> Option<TextCommand>
 
 // `LOCAL_AS PEER_AS LOCAL_IP`
 fn side_of(operands: &[&str]) -> Option<Side>
-    ensures found { IfSome result (λ side. IsEncode (codes "encode" ∷ map (λ w. w.now) operands.now) side) }
-    ensures none { IfNone result ((side : Ends) → IsEncode (codes "encode" ∷ map (λ w. w.now) operands.now) side → ⊥) }
+    ensures found { IfSome result
+        (λ side. IsEncode (codes "encode" ∷ map (λ w. w.now) operands.now) side) }
+    ensures none { IfNone result
+        ((side : Ends) → IsEncode (codes "encode" ∷ map (λ w. w.now) operands.now) side → ⊥) }
 {
-    let Some((local_as, others)) = operands.split_first() else {
-        return None;
-    };
-    let Some((peer_as, others)) = others.split_first() else {
-        return None;
-    };
-    let Some((local, others)) = others.split_first() else {
-        return None;
-    };
+    let (local_as, others) = operands.split_first()?;
+    let (peer_as, others) = others.split_first()?;
+    let (local, others) = others.split_first()?;
     if !others.is_empty() {
         return None;
     }
@@ -73,18 +70,14 @@ fn side_of(operands: &[&str]) -> Option<Side>
 }
 
 fn side_from(local_as: &str, peer_as: &str, local: &str) -> Option<Side>
-    ensures found { IfSome result (λ side. IsEncode (codes "encode" ∷ local_as.now ∷ peer_as.now ∷ local.now ∷ []) side) }
-    ensures none { IfNone result ((side : Ends) → IsEncode (codes "encode" ∷ local_as.now ∷ peer_as.now ∷ local.now ∷ []) side → ⊥) }
+    ensures found { IfSome result
+        (λ side. IsEncode (codes "encode" ∷ local_as.now ∷ peer_as.now ∷ local.now ∷ []) side) }
+    ensures none { IfNone result ((side : Ends)
+        → IsEncode (codes "encode" ∷ local_as.now ∷ peer_as.now ∷ local.now ∷ []) side → ⊥) }
 {
-    let Some(local_as) = asn(local_as.as_bytes()) else {
-        return None;
-    };
-    let Some(peer_as) = asn(peer_as.as_bytes()) else {
-        return None;
-    };
-    let Some(local) = ipv4(local.as_bytes()) else {
-        return None;
-    };
+    let local_as = asn(local_as.as_bytes())?;
+    let peer_as = asn(peer_as.as_bytes())?;
+    let local = ipv4(local.as_bytes())?;
     Some(Side {
         local: Addr::V4(local),
         local_as,

@@ -1,10 +1,12 @@
 -- Addresses and prefixes as texts.
-use Rattle.std.proofs.Common.{ℕ, ◌≡◌, ◌≢◌, ◌<◌, ◌≤◌, List, ◌∷◌, ◌++◌, All, decimal, arith, ap, sym, ◌∙◌, refl, subst, inl, inr}
+use Rattle.std.proofs.Common.{ℕ, ◌≡◌, ◌≢◌, ◌<◌, ◌≤◌, List, ◌∷◌, ◌++◌, All, decimal, arith, ap, sym, ◌∙◌, refl}
+use Rattle.std.proofs.Common.{subst, inl, inr}
 use Rattle.route_values.specs.declared.addr.Addr.{Addr}
 use Rattle.route_values.specs.declared.addr.Addr.TheVariants.{V4}
 use Rattle.route_values.specs.Prefix.{Block, IsPrefix}
 use Rattle.text_forms.specs.Addresses.{IsIpv4, IsMaskedText, IsPrefixText}
-use Rattle.text_forms.proofs.CutLemmas.{Lacks, first_same, lacks_from_all, lacks_none, lacks_append, lacks_decimal, dot_no_digit, slash_no_digit}
+use Rattle.text_forms.proofs.CutLemmas.{Lacks, first_same, lacks_from_all, lacks_none, lacks_append, lacks_decimal}
+use Rattle.text_forms.proofs.CutLemmas.{dot_no_digit, slash_no_digit}
 use Rattle.text_forms.proofs.DecimalLemmas.{number_one}
 
 dotless : (number : ℕ) → number < 256 → Lacks 46 (decimal number)

@@ -1,5 +1,6 @@
 -- AS numbers as texts.
-use Rattle.std.proofs.Common.{ℕ, ◌≡◌, ◌<◌, ◌^◌, ◌+◌, ◌*◌, List, ◌∷◌, ◌++◌, decimal, arith, sym, ◌∙◌, refl, subst, inl, inr}
+use Rattle.std.proofs.Common.{ℕ, ◌≡◌, ◌<◌, ◌^◌, ◌+◌, ◌*◌, List, ◌∷◌, ◌++◌, decimal, arith, sym, ◌∙◌, refl}
+use Rattle.std.proofs.Common.{subst, inl, inr}
 use Rattle.text_forms.specs.Numbers.{IsAsn, IsDottedAsn}
 use Rattle.text_forms.proofs.CutLemmas.{Lacks, first_same, lacks_none, lacks_decimal, dot_no_digit}
 use Rattle.text_forms.proofs.DecimalLemmas.{number_one}

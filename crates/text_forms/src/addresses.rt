@@ -17,18 +17,10 @@ pub fn ipv4(text: &[u8]) -> Option<u32>
     ensures only { IfSome result (λ number. (other : ℕ) → IsIpv4 text.now other → other ≡ number) }
     ensures none { IfNone result ((other : ℕ) → IsIpv4 text.now other → ⊥) }
 {
-    let Some((a, after_a)) = leading_octet(text) else {
-        return None;
-    };
-    let Some((b, after_b)) = leading_octet(after_a) else {
-        return None;
-    };
-    let Some((c, after_c)) = leading_octet(after_b) else {
-        return None;
-    };
-    let Some(d) = octet(after_c) else {
-        return None;
-    };
+    let (a, after_a) = leading_octet(text)?;
+    let (b, after_b) = leading_octet(after_a)?;
+    let (c, after_c) = leading_octet(after_b)?;
+    let d = octet(after_c)?;
     Some(u32::from_be_bytes([a, b, c, d]))
 }
 
@@ -36,7 +28,8 @@ pub fn ipv4(text: &[u8]) -> Option<u32>
 /// or an address alone for all its 32 bits.
 pub fn ipv4_prefix(text: &[u8]) -> Option<Prefix>
     ensures found { IfSome result (λ prefix. IsPrefixText text.now prefix) }
-    ensures only { IfSome result (λ prefix. (other : Block) → IsPrefixText text.now other → other ≡ prefix) }
+    ensures only { IfSome result
+        (λ prefix. (other : Block) → IsPrefixText text.now other → other ≡ prefix) }
     ensures none { IfNone result ((other : Block) → IsPrefixText text.now other → ⊥) }
 {
     match cut(text, b'/') {
@@ -53,37 +46,28 @@ fn leading_octet(text: &[u8]) -> Option<(u8, &[u8])>
     ensures none { IfNone result ((number : ℕ) (tail : List ℕ) → number < 256
         → text.now ≢ decimal number ++ 46 ∷ tail) }
 {
-    let Some((front, rest)) = cut(text, b'.') else {
-        return None;
-    };
-    let Some(number) = octet(front) else {
-        return None;
-    };
+    let (front, rest) = cut(text, b'.')?;
+    let number = octet(front)?;
     Some((number, rest))
 }
 
 // The prefix of an address and a number of bits.
 fn masked(addr: &[u8], len: &[u8]) -> Option<Prefix>
     ensures found { IfSome result (λ prefix. IsPrefixText (addr.now ++ 47 ∷ len.now) prefix) }
-    ensures none { IfNone result ((number bits : ℕ) → IsIpv4 addr.now number → len.now ≡ decimal bits
-        → IsPrefix (V4 number) bits → ⊥) }
+    ensures none { IfNone result ((number bits : ℕ) → IsIpv4 addr.now number
+        → len.now ≡ decimal bits → IsPrefix (V4 number) bits → ⊥) }
 {
-    let Some(number) = ipv4(addr) else {
-        return None;
-    };
-    let Some(len) = octet(len) else {
-        return None;
-    };
+    let number = ipv4(addr)?;
+    let len = octet(len)?;
     Prefix::new(Addr::V4(number), len)
 }
 
 // The prefix of an address alone.
 fn whole(text: &[u8]) -> Option<Prefix>
     ensures found { IfSome result (λ prefix. IsPrefixText text.now prefix) }
-    ensures none { IfNone result ((number : ℕ) → IsIpv4 text.now number → IsPrefix (V4 number) 32 → ⊥) }
+    ensures none { IfNone result
+        ((number : ℕ) → IsIpv4 text.now number → IsPrefix (V4 number) 32 → ⊥) }
 {
-    let Some(number) = ipv4(text) else {
-        return None;
-    };
+    let number = ipv4(text)?;
     Prefix::new(Addr::V4(number), WIDTH)
 }

@@ -1,5 +1,6 @@
 //! AS numbers as texts.
-ghost use Rattle.std.specs.Prelude.{◌≡◌, ◌≢◌, ◌+◌, ◌*◌, ◌<◌, ◌^◌, ◌++◌, ◌∷◌, ℕ, decimal, IfSome, IfNone};
+ghost use Rattle.std.specs.Prelude.{◌≡◌, ◌≢◌, ◌+◌, ◌*◌, ◌<◌, ◌^◌, ◌++◌, ◌∷◌, ℕ, decimal};
+ghost use Rattle.std.specs.Prelude.{IfSome, IfNone};
 ghost use Rattle.text_forms.specs.Numbers.{IsAsn};
 
 use crate::cutting::cut;
@@ -24,12 +25,8 @@ fn dotted_asn(high: &[u8], low: &[u8]) -> Option<u32>
     ensures none { IfNone result ((upper lower : ℕ) → upper < 65536 → lower < 65536
         → high.now ≡ decimal upper → low.now ≡ decimal lower → upper * 65536 + lower ≡ 0) }
 {
-    let Some(high) = half(high) else {
-        return None;
-    };
-    let Some(low) = half(low) else {
-        return None;
-    };
+    let high = half(high)?;
+    let low = half(low)?;
     if high == 0 && low == 0 {
         return None;
     }
@@ -38,10 +35,9 @@ fn dotted_asn(high: &[u8], low: &[u8]) -> Option<u32>
 
 fn plain_asn(text: &[u8]) -> Option<u32>
     ensures found { IfSome result (λ number. IsAsn text.now number) }
-    ensures none { IfNone result ((other : ℕ) → 0 < other → other < 2 ^ 32 → text.now ≢ decimal other) }
+    ensures none { IfNone result
+        ((other : ℕ) → 0 < other → other < 2 ^ 32 → text.now ≢ decimal other) }
 {
-    let Some(number) = number(text) else {
-        return None;
-    };
+    let number = number(text)?;
     if number == 0 { None } else { Some(number) }
 }

@@ -3,7 +3,7 @@ ghost use Rattle.std.specs.Prelude.{◌≡◌, ◌∷◌, ◌<◌, [], length, I
 ghost use Rattle.std.specs.List.{list_all};
 ghost use Rattle.std.specs.Option.{option_to_list, option_map};
 ghost use Rattle.text_forms.specs.Blanks.{is_blank_byte};
-ghost use Rattle.text_forms.specs.Lines.{lines, line_or_none, without_return};
+ghost use Rattle.text_forms.specs.Lines.{lines, line_or_none, without_return, IsFirstLine};
 ghost use Rattle.text_forms.specs.LineTold.{line_told};
 
 use crate::cutting::cut;
@@ -26,7 +26,9 @@ pub enum Line<'a> {
 /// A line ends with a line feed. One of spaces and tabs alone is passed over, however long it is. None says that no
 /// line stands there whole: bytes behind the last line feed are no line yet.
 pub fn first_line(bytes: &[u8]) -> Option<(Line<'_>, &[u8])>
-    ensures found { IfSome result (λ parts. lines bytes.now ≡ line_told parts.0 ∷ lines parts.1.now) }
+    ensures place { IfSome result (λ parts. IsFirstLine bytes.now (line_told parts.0) parts.1.now) }
+    ensures found { IfSome result
+        (λ parts. lines bytes.now ≡ line_told parts.0 ∷ lines parts.1.now) }
     ensures shorter { IfSome result (λ parts. length parts.1.now < length bytes.now) }
     ensures none { IfNone result (lines bytes.now ≡ []) }
 {

@@ -1,7 +1,8 @@
 //! The words of a line.
-ghost use Rattle.std.specs.Prelude.{◌≡◌, ◌<◌, ◌≤◌, [], ◌∷◌, All, true, false, map, take, drop, length, IfSome, IfNone, IfOk};
-ghost use Rattle.text_forms.specs.Blanks.{is_blank_byte};
-ghost use Rattle.text_forms.specs.Words.{begins_word, words_of};
+ghost use Rattle.std.specs.Prelude.{◌≡◌, ◌<◌, ◌≤◌, [], ◌∷◌, true, false, map, take, drop, length};
+ghost use Rattle.std.specs.Prelude.{IfSome, IfNone, IfOk};
+ghost use Rattle.text_forms.specs.Blanks.{is_blank_byte, HasNoBlank, IsBehindBlanks};
+ghost use Rattle.text_forms.specs.Words.{begins_word, words_of, IsFirstWord};
 
 use route_values::NoMemory;
 use std::alloc::Global;
@@ -13,9 +14,11 @@ pub fn is_blank(byte: u8) -> bool
     byte == b' ' || byte == b'\t'
 }
 
-/// The first word, and what follows it; None where the text has no word.
+/// The first word, and all that follows it; None where the text has no word.
 pub fn first_word(text: &[u8]) -> Option<(&[u8], &[u8])>
-    ensures found { IfSome result (λ parts. words_of text.now ≡ parts.0.now ∷ words_of parts.1.now) }
+    ensures place { IfSome result (λ parts. IsFirstWord text.now parts.0.now parts.1.now) }
+    ensures found { IfSome result
+        (λ parts. words_of text.now ≡ parts.0.now ∷ words_of parts.1.now) }
     ensures shorter { IfSome result (λ parts. length parts.1.now < length text.now) }
     ensures none { IfNone result (words_of text.now ≡ []) }
 {
@@ -43,8 +46,7 @@ pub fn words(alloc: Global, line: &[u8]) -> Result<Vec<&[u8]>, NoMemory>
 
 // What is left behind spaces and tabs.
 fn without_blanks(text: &[u8]) -> &[u8]
-    ensures same { words_of result.now ≡ words_of text.now }
-    ensures shorter { length result.now ≤ length text.now }
+    ensures behind { IsBehindBlanks text.now result.now }
     ensures begins { 0 < length result.now → begins_word result.now ≡ true }
 {
     let mut rest = text;
@@ -60,7 +62,7 @@ fn without_blanks(text: &[u8]) -> &[u8]
 // How long the word is that a text begins with.
 fn word_len(text: &[u8]) -> usize
     ensures within { result ≤ length text.now }
-    ensures word { All (λ b. is_blank_byte b ≡ false) (take result text.now) }
+    ensures word { HasNoBlank (take result text.now) }
     ensures end { begins_word (drop result text.now) ≡ false }
 {
     for (i, b) in text.iter().enumerate() {

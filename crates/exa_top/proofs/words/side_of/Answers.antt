@@ -1,4 +1,4 @@
-use Rattle.std.proofs.Common.{◌≡◌, List, ℕ, [], ◌∷◌, ◌∙◌, map, subst, sym, codes, ap}
+use Rattle.std.proofs.Common.{List, ℕ, ◌∷◌, ◌∙◌, map, subst, sym, codes, ap}
 use Rattle.std.proofs.lemmas.Bool.{eqb-true}
 use Rattle.std.specs.Option.{IfNone}
 use Rattle.route_values.specs.declared.settings.Side.{Side}
@@ -8,7 +8,9 @@ use Rattle.exa_top.proofs.words.side_of.Goals as goal
 
 pub returns-clause-none : goal.returns-clause-none
 returns-clause-none c =
-    let none_reads : List (List ℕ) → Type 0 = λ words. IfNone c.side_from.result ((side : Side) → IsEncode words side → ⊥) in
-    let words = three_words _ _ _ _ _ _ _ c.in-Some.ensures.cases.0 c.in-Some-split_first.ensures.cases.0 c.in-Some-split_first-2.ensures.cases.0
+    let none_reads : List (List ℕ) → Type 0 = λ words. IfNone c.side_from.result
+    ((side : Side) → IsEncode words side → ⊥) in
+    let words = three_words _ _ _ _ _ _ _ c.in_ok-local_as.ensures.cases.0 c.in_ok-peer_as.ensures.cases.0
+    c.in_ok-local.ensures.cases.0
     (eqb-true _ 0 (sym c.is_empty.ensures ∙ c.if-not-is_empty.false)) in
     subst none_reads (sym (ap (λ ws. codes "encode" ∷ map (λ w. w.now) ws) words)) c.side_from.ensures.none

@@ -15,13 +15,15 @@ returns-in-Some-clause-only c =
 pub returns-in-Some-clause-none : goal.returns-in-Some-clause-none
 returns-in-Some-clause-none c =
     none_map c.dotted_asn.result _ _
-    (λ none m is. no_dotted_asn c.args.text.now c.in-Some.high.now c.in-Some.low.now m (lacks_from_all 46 _ c.in-Some.ensures.first)
+    (λ none m is. no_dotted_asn c.args.text.now c.in-Some.high.now c.in-Some.low.now m
+    (lacks_from_all 46 _ c.in-Some.ensures.first)
     c.in-Some.ensures.found none is)
     c.dotted_asn.ensures.none
 
 pub returns-in-None-clause-only : goal.returns-in-None-clause-only
 returns-in-None-clause-only c =
-    some_map c.plain_asn.result _ _ (λ number is other also. asn_one c.args.text.now other number also is) c.plain_asn.ensures.found
+    some_map c.plain_asn.result _ _ (λ number is other also. asn_one c.args.text.now other number also is)
+    c.plain_asn.ensures.found
 
 pub returns-in-None-clause-none : goal.returns-in-None-clause-none
 returns-in-None-clause-none c =

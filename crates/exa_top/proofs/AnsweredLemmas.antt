@@ -1,0 +1,201 @@
+-- What a command that was run shows of its devices, by how it ended.
+use Rattle.std.proofs.Common.{ℕ, ◌≡◌, ◌<◌, true, List, [], ◌++◌, length, Option, Some, None, refl, sym}
+use Rattle.std.proofs.Common.{ap, subst, arith, append-nil, length-append, inl, inr}
+use Rattle.route_values.specs.declared.addr.Family.TheVariants.{Ipv4}
+use Rattle.route_values.specs.declared.settings.Side.{Side}
+use Rattle.outside.specs.Seen.{SourceSeen, SinkSeen}
+use Rattle.outside.specs.Told.{Grows, Shrinks, CountsOne}
+use Rattle.update_grammar.specs.Laws.{EndIsSpelled}
+use Rattle.exa_top.specs.declared.status.Status.{Status}
+use Rattle.exa_top.specs.declared.status.Status.TheVariants as status
+use Rattle.exa_top.specs.declared.words.TextCommand.{TextCommand}
+use Rattle.exa_top.specs.declared.words.TextCommand.TheVariants.{Encode, Help, Version}
+use Rattle.exa_top.specs.Encoding.{IsEncoding, marker, last_text}
+use Rattle.exa_top.specs.Top.{input_limit, IsOutput, ReadToEnd, ReadsWhole, ReadPart, Broke, GaveLimit, GaveFrom}
+use Rattle.exa_top.specs.Top.{Answered, Wrote}
+use Rattle.exa_top.proofs.OutputLemmas.{some_encoding, parted}
+
+-- what isn't touched has grown by nothing
+grows_none : (told : Option (List ℕ)) → Grows told told []
+grows_none None = tt
+grows_none (Some bytes) = sym (append-nil bytes)
+
+shrinks_none : (told : Option (List ℕ)) → Shrinks told told []
+shrinks_none None = tt
+shrinks_none (Some bytes) = refl
+
+read_none : (source : SourceSeen) → ReadPart source source []
+read_none source = record { given = grows_none source.given; left = shrinks_none source.left; short = omega arith }
+
+-- fewer bytes than a limit don't reach it
+few_given : (limit : ℕ) (given given' : Option (List ℕ)) (bytes : List ℕ) → Grows given given' bytes
+    → length bytes < limit → GaveFrom limit given given' → ⊥
+few_given limit None now bytes grows few from = from
+few_given limit (Some was) None bytes grows few from = from
+few_given limit (Some was) (Some now) bytes grows few from = absurd
+    (omega (arith, from, few, ap length grows, length-append was bytes))
+
+-- a command that ended well was given fewer bytes than the limit
+pub whole_is_few : (command : TextCommand) (source source' : SourceSeen) (bytes : List ℕ)
+    → ReadsWhole command source source' bytes → GaveFrom input_limit source.given source'.given → ⊥
+whole_is_few (Encode side) source source' bytes whole = few_given input_limit source.given source'.given bytes
+    whole.given whole.short
+whole_is_few Help source source' bytes whole = λ from.
+    let none : SourceSeen → Type 0 = λ seen. GaveFrom input_limit source.given seen.given in
+    few_given input_limit source.given source.given [] (grows_none source.given) (omega arith) (subst none whole.0 from)
+whole_is_few Version source source' bytes whole = λ from.
+    let none : SourceSeen → Type 0 = λ seen. GaveFrom input_limit source.given seen.given in
+    few_given input_limit source.given source.given [] (grows_none source.given) (omega arith) (subst none whole.0 from)
+
+-- a part of a read whole
+pub part_of_whole : (source source' : SourceSeen) (bytes : List ℕ) → ReadToEnd source source' bytes
+    → ReadPart source source' bytes
+part_of_whole source source' bytes whole = record {
+  given = whole.given;
+  left = whole.left;
+  short = omega (arith, whole.short);
+}
+
+-- a command that read what it had to and then wrote
+pub written : (command : TextCommand) (source source' : SourceSeen) (sink sink' : SinkSeen) (input early late : List ℕ)
+    (ends : Status) → ReadsWhole command source source' input → ReadPart source source' input
+    → IsOutput command input early late
+    → ((part rest : List ℕ) → early ++ late ≡ part ++ rest → length early < length part → source'.ended ≡ true)
+    → source'.faults ≡ source.faults → Wrote (early ++ late) sink sink' ends
+    → Answered command source source' sink sink' ends
+written command source source' sink sink' input early late status.Ok whole part outcome in_time same wrote = record {
+  spelled = λ is. absurd (cc);
+  ok = λ is. record { input = input; early = early; late = late; read = whole; outcome = outcome; written = wrote.0 };
+  broke = λ other. absurd (other refl);
+  read = λ is. absurd (cc);
+  read_same = λ other. same;
+  write = λ is. absurd (cc);
+  write_same = λ other. wrote.1;
+  long = λ is. absurd (cc);
+  over = λ from. absurd (whole_is_few command source source' input whole from);
+}
+written command source source' sink sink' input early late status.WriteFault whole part outcome in_time same wrote =
+    record {
+      spelled = λ is. absurd (cc);
+      ok = λ is. absurd (cc);
+      broke = λ other. record {
+        input = input;
+        early = early;
+        late = late;
+        part = wrote.0.0;
+        read = part;
+        outcome = outcome;
+        front = (wrote.0.1, wrote.0.2);
+        written = wrote.0.3;
+        ended = in_time wrote.0.0 wrote.0.1 wrote.0.2;
+      };
+      read = λ is. absurd (cc);
+      read_same = λ other. same;
+      write = λ is. wrote.1;
+      write_same = λ other. absurd (other refl);
+      long = λ is. absurd (cc);
+      over = λ from. absurd (whole_is_few command source source' input whole from);
+    }
+written command source source' sink sink' input early late status.Usage whole part outcome in_time same wrote =
+    absurd wrote
+written command source source' sink sink' input early late status.ReadFault whole part outcome in_time same wrote =
+    absurd wrote
+written command source source' sink sink' input early late status.NoMemory whole part outcome in_time same wrote =
+    absurd wrote
+written command source source' sink sink' input early late status.InputLong whole part outcome in_time same wrote =
+    absurd wrote
+
+none_longer : (text part rest : List ℕ) → text ++ [] ≡ part ++ rest → length text < length part → ⊥
+none_longer text part rest is longer = absurd (omega (
+  arith,
+  longer,
+  ap length is,
+  length-append part rest,
+  length-append text [],
+))
+
+-- a command that writes a text of its own
+pub text_written : (command : TextCommand) (source : SourceSeen) (sink sink' : SinkSeen) (text : List ℕ) (ends : Status)
+    → ReadsWhole command source source [] → IsOutput command [] text [] → Wrote text sink sink' ends
+    → Answered command source source sink sink' ends
+text_written command source sink sink' text ends whole outcome wrote =
+    let Of : List ℕ → Type 0 = λ all. Wrote all sink sink' ends in
+    written command source source sink sink' [] text [] ends whole (read_none source) outcome
+    (λ part rest is longer. absurd (none_longer text part rest is longer)) refl
+    (subst Of (sym (append-nil text)) wrote)
+
+-- `encode` that read its input and wrote the output
+pub encoding_written : (side : Side) (source source' : SourceSeen) (sink sink' : SinkSeen) (input text : List ℕ)
+    (ends : Status) → ReadToEnd source source' input → IsEncoding side input text → source'.faults ≡ source.faults
+    → Wrote text sink sink' ends → Answered (Encode side) source source' sink sink' ends
+encoding_written side source source' sink sink' input text ends whole encoding same wrote =
+    let parts = parted side input text encoding in
+    let Of : List ℕ → Type 0 = λ all. Wrote all sink sink' ends in
+    written (Encode side) source source' sink sink' input parts.early parts.late ends whole
+    (part_of_whole source source' input whole) parts.outcome (λ part rest is longer. whole.ended) same
+    (subst Of parts.output_is wrote)
+
+-- `encode` that wrote nothing
+nothing_written : EndIsSpelled Ipv4 → (side : Side) (source source' : SourceSeen) (sink : SinkSeen) (input : List ℕ)
+    → ReadPart source source' input → Broke (Encode side) source source' sink sink
+nothing_written law side source source' sink input part =
+    let some = some_encoding law side input in
+    record {
+      input = input;
+      early = some.0;
+      late = last_text marker;
+      part = [];
+      read = part;
+      outcome = some.1;
+      front = (some.0 ++ last_text marker, refl);
+      written = grows_none sink.taken;
+      ended = λ longer. absurd (omega (arith, longer));
+    }
+
+-- `encode` that found no memory
+pub no_memory : EndIsSpelled Ipv4 → (side : Side) (source source' : SourceSeen) (sink : SinkSeen) (input : List ℕ)
+    → ReadPart source source' input → source'.faults ≡ source.faults
+    → Answered (Encode side) source source' sink sink status.NoMemory
+no_memory law side source source' sink input part same = record {
+  spelled = λ is. absurd (cc);
+  ok = λ is. absurd (cc);
+  broke = λ other. nothing_written law side source source' sink input part;
+  read = λ is. absurd (cc);
+  read_same = λ other. same;
+  write = λ is. absurd (cc);
+  write_same = λ other. refl;
+  long = λ is. absurd (cc);
+  over = λ from. inr (inr refl);
+}
+
+-- `encode` whose input failed
+pub read_fault : EndIsSpelled Ipv4 → (side : Side) (source source' : SourceSeen) (sink : SinkSeen) (input : List ℕ)
+    → ReadPart source source' input → CountsOne source.faults source'.faults
+    → Answered (Encode side) source source' sink sink status.ReadFault
+read_fault law side source source' sink input part counts = record {
+  spelled = λ is. absurd (cc);
+  ok = λ is. absurd (cc);
+  broke = λ other. nothing_written law side source source' sink input part;
+  read = λ is. counts;
+  read_same = λ other. absurd (other refl);
+  write = λ is. absurd (cc);
+  write_same = λ other. refl;
+  long = λ is. absurd (cc);
+  over = λ from. inr (inl refl);
+}
+
+-- `encode` whose input didn't end in time
+pub input_long : EndIsSpelled Ipv4 → (side : Side) (source source' : SourceSeen) (sink : SinkSeen) (input : List ℕ)
+    → ReadPart source source' input → source'.faults ≡ source.faults → GaveLimit input_limit source source'
+    → Answered (Encode side) source source' sink sink status.InputLong
+input_long law side source source' sink input part same gave = record {
+  spelled = λ is. absurd (cc);
+  ok = λ is. absurd (cc);
+  broke = λ other. nothing_written law side source source' sink input part;
+  read = λ is. absurd (cc);
+  read_same = λ other. same;
+  write = λ is. absurd (cc);
+  write_same = λ other. refl;
+  long = λ is. gave;
+  over = λ from. inl refl;
+}
