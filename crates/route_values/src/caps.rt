@@ -34,7 +34,7 @@ impl Caps {
     ghost use Rattle.route_values.specs.Caps.{no_caps, with_family, with_extended};
 
     /// No family, and messages of 4,096 bytes.
-    pub const fn none() -> Caps
+    pub fn none() -> Caps
         ensures { result ≡ no_caps }
     {
         Caps {
@@ -47,7 +47,7 @@ impl Caps {
     }
 
     /// The same, with routes of the family carried, and with path identifiers for its prefixes or without.
-    pub const fn with(self, family: Family, path: bool) -> Caps
+    pub fn with(self, family: Family, path: bool) -> Caps
         ensures { result ≡ with_family self family path }
     {
         match family {
@@ -65,7 +65,7 @@ impl Caps {
     }
 
     /// The same, with messages of up to 65,535 bytes.
-    pub const fn with_extended(self) -> Caps
+    pub fn with_extended(self) -> Caps
         ensures { result ≡ with_extended self }
     {
         Caps {
@@ -75,7 +75,7 @@ impl Caps {
     }
 
     /// Whether routes of the family are carried.
-    pub const fn has(&self, family: Family) -> bool
+    pub fn has(&self, family: Family) -> bool
         ensures { result ≡ has_family self.now family }
     {
         match family {
@@ -85,7 +85,7 @@ impl Caps {
     }
 
     /// Whether prefixes of the family have path identifiers.
-    pub const fn path(&self, family: Family) -> bool
+    pub fn path(&self, family: Family) -> bool
         ensures value { result ≡ has_path self.now family }
         ensures kept { IsTrue result → IsTrue (has_family self.now family) }
     {
@@ -96,7 +96,7 @@ impl Caps {
     }
 
     /// Whether messages may have up to 65,535 bytes.
-    pub const fn extended(&self) -> bool
+    pub fn extended(&self) -> bool
         ensures { result ≡ self.now.extended }
     {
         self.extended
