@@ -1,14 +1,12 @@
--- The derived tests of prefixes and keys are the definitions', and so is their derived order. A crate whose map has such
--- keys carries what the map says over to the definitions by `subst` along these paths.
+-- The derived tests of prefixes and keys are the definitions', and so is their derived order. A crate whose map has
+-- such keys carries what the map says over to the definitions by `subst` along these paths.
 use Rattle.std.proofs.Common.{ℕ, ◌≡◌, ◌==◌, ◌&&◌, [], refl, ap, ◌∙◌, replicate}
 use Rattle.std.specs.Prelude.{nat_eq}
 use Rattle.std.specs.Cmp.{unsigned_tied}
 use Rattle.std.specs.Cmp.Lexicographic.{pointwise, slice_cmp, texts_ties}
-use Rattle.std.specs.declared.cmp.Ordering.{Ordering}
 use Rattle.std.specs.Ordering.{nat_cmp, is_eq, ordering_then}
 use Rattle.route_values.specs.declared.addr.Addr.{Addr}
 use Rattle.route_values.specs.declared.addr.Addr.TheVariants.{V4, V6}
-use Rattle.route_values.specs.declared.key.Key.{Key}
 use Rattle.route_values.specs.contracts.prefix.PrefixPartialEq.TheImpl.{ghosts as prefix_test}
 use Rattle.route_values.specs.contracts.prefix.PrefixOrd.TheImpl.{ghosts as prefix_order}
 use Rattle.route_values.specs.contracts.key.KeyPartialEq.TheImpl.{ghosts as key_test}

@@ -19,15 +19,21 @@ pub struct Caps {
 }
 
 impl Model for Caps {
-    ghost use Rattle.route_values.specs.Caps.{Caps, AreKept};
+    ghost use Rattle.route_values.specs.Caps.{Caps, AreKept, flags};
 
     ghost Value = { Caps };
 
-    ghost view = { λ c. record { ipv4 = c.ipv4; ipv6 = c.ipv6; ipv4_path = c.ipv4_path; ipv6_path = c.ipv6_path; extended = c.extended } };
+    ghost view = { λ c. flags c.ipv4 c.ipv6 c.ipv4_path c.ipv6_path c.extended };
 
-    ghost invariant = { λ c. AreKept (record { ipv4 = c.ipv4; ipv6 = c.ipv6; ipv4_path = c.ipv4_path; ipv6_path = c.ipv6_path; extended = c.extended }) };
+    ghost invariant = { λ c. AreKept (flags c.ipv4 c.ipv6 c.ipv4_path c.ipv6_path c.extended) };
 
-    ghost inverse = { λ c. record { ipv4 = c.ipv4; ipv6 = c.ipv6; ipv4_path = c.ipv4_path; ipv6_path = c.ipv6_path; extended = c.extended } };
+    ghost inverse = { λ c. record {
+      ipv4 = c.ipv4;
+      ipv6 = c.ipv6;
+      ipv4_path = c.ipv4_path;
+      ipv6_path = c.ipv6_path;
+      extended = c.extended;
+    } };
 }
 
 impl Caps {

@@ -1,6 +1,7 @@
 //! How long the lists of a route's attributes may be.
 ghost use Rattle.std.specs.Prelude.{◌≤◌, ◌↔◌, IsTrue};
-ghost use Rattle.route_values.specs.Limits.{numbers_in, numbers_written, counts_written, IsWithinLimits};
+ghost use Rattle.route_values.specs.Limits.{numbers_in, numbers_written};
+ghost use Rattle.route_values.specs.Limits.{counts_written, IsWithinLimits};
 
 use crate::attrs::Attrs;
 use crate::path::{AsPath, Segment};

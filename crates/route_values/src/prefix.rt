@@ -31,9 +31,17 @@ impl Model for Prefix {
 
     ghost invariant = { λ p. IsStored p.family p.bytes p.len };
 
-    ghost inverse = { λ b. record { family = family_of b.addr; bytes = octets_of b.addr; len = b.len } };
+    ghost inverse = { λ b. record {
+      family = family_of b.addr;
+      bytes = octets_of b.addr;
+      len = b.len;
+    } };
 
-    ghost inverse_ok = { λ p h i. record { family = family_held p.family p.bytes i; bytes = h.held i; len = p.len } };
+    ghost inverse_ok = { λ p h i. record {
+      family = family_held p.family p.bytes i;
+      bytes = h.held i;
+      len = p.len;
+    } };
 }
 
 impl Prefix {

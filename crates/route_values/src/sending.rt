@@ -22,7 +22,8 @@ const DEFAULT_LOCAL_PREF: u32 = 100;
 /// first place alone. All else is sent as it was written. So attributes within their limits are sent within them.
 pub fn wire(alloc: Global, attrs: &Attrs, side: &Side) -> Result<WireAttrs, NoMemory>
     ensures value { IfOk result (λ w. w ≡ sent attrs.now side.now) }
-    ensures within { IsWithinLimits (counts_written attrs.now) → IfOk result (λ w. IsWithinLimits (counts_sent w)) }
+    ensures within { IsWithinLimits (counts_written attrs.now)
+        → IfOk result (λ w. IsWithinLimits (counts_sent w)) }
 {
     Ok(WireAttrs {
         hop: hop_of(attrs.hop, side),
