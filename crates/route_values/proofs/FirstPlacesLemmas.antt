@@ -86,12 +86,23 @@ first_places-push same laws (x ∷ xs) y =
     ap (λ t. x ∷ others same x t) (first_places-push same laws xs y)
     ∙ with_new_step same laws x y (first_places same xs) (same x y) refl (has_same same (first_places same xs) y) refl
 
+-- what a list is after a value was put to it, and where it was left out
+pub put_new : {X : Type 0} (kept pushed later : List X) (item : X) (had : Bool)
+    → later ≡ pushed → pushed ≡ kept ++ item ∷ [] → had ≡ false → later ≡ put had kept item
+put_new kept pushed later item had is new apart = is ∙ new ∙ sym (ap (λ b. put b kept item) apart)
+
+pub put_old : {X : Type 0} (kept later : List X) (item : X) (had : Bool)
+    → later ≡ kept → had ≡ true → later ≡ put had kept item
+put_old kept later item had is near = is ∙ sym (ap (λ b. put b kept item) near)
+
 -- the values kept of the first i + 1 are those kept of the first i, with the next where it is new
 pub first_places-take : {X : Type 0} (same : X → X → Bool) → IsPartialEquivalence same
-    → (items : List X) (i : ℕ) (item : X) (kept later : List X) (had : Bool)
+    → (items : List X) (i : ℕ) (item : X) (kept seen later : List X) (had : Bool)
     → i < length items → item ≡ get_or items i item → kept ≡ first_places same (take i items)
-    → had ≡ has_same same kept item → later ≡ put had kept item → later ≡ first_places same (take (i + 1) items)
-first_places-take same laws items i item kept later had within is before test after =
+    → had ≡ has_same same seen item → seen ≡ kept → later ≡ put had kept item
+    → later ≡ first_places same (take (i + 1) items)
+first_places-take same laws items i item kept seen later had within is before test whole after =
     let more = take_more items i item within ∙ ap (λ x. take i items ++ x ∷ []) (sym is) in
-    after ∙ ap (λ b. put b kept item) test ∙ ap (λ k. with_new same k item) before
+    after ∙ ap (λ b. put b kept item) (test ∙ ap (λ k. has_same same k item) whole)
+    ∙ ap (λ k. with_new same k item) before
     ∙ sym (ap (first_places same) more ∙ first_places-push same laws (take i items) item)

@@ -1,5 +1,5 @@
 //! The values that routes are made of: addresses, prefixes, keys, path attributes as they are written in a
-//! command and as they are sent, and what a session's settings say of them.
+//! command and as they are sent, how long their lists may be, and what a session's settings say of them.
 //!
 //! Path attributes are those of RFC 4271, RFC 1997, RFC 4360, RFC 4456 and RFC 8092; path identifiers are those of
 //! RFC 7911. Nothing here reads or writes a message or a text. The crate stands on `answers` alone.

@@ -11,7 +11,7 @@ use crate::settings::Side;
 use answers::NoMemory;
 use std::alloc::Global;
 
-/// The LOCAL_PREF that a neighbour of the own AS is sent where none was written.
+// The LOCAL_PREF that a neighbour of the own AS is sent where none was written.
 const DEFAULT_LOCAL_PREF: u32 = 100;
 
 /// The attributes as they are sent to a neighbour.

@@ -1,16 +1,14 @@
-ghost use Rattle.std.specs.Prelude.{◌<◌};
-
 use super::*;
 use std::alloc::Global;
 use std::mem::size_of;
 use std::test::Fail;
 
-/// The own AS, and that of a neighbour.
+// The own AS, and that of a neighbour.
 const OWN: u32 = 65001;
 
 const OTHER: u32 = 65002;
 
-/// 192.0.2.9 and 192.0.2.1.
+// 192.0.2.9 and 192.0.2.1.
 const LOCAL: Addr = Addr::V4(0xC000_0209);
 
 const HOP: Addr = Addr::V4(0xC000_0201);
@@ -39,7 +37,7 @@ fn side(peer_as: u32) -> Side {
 // The numbers below `count`.
 fn numbers(alloc: Global, count: u32) -> Result<U32s, NoMemory> {
     let mut numbers = Items::new(alloc);
-    for number in 0..count {
+    'numbers: for number in 0..count {
         numbers.push(number)?;
     }
     Ok(numbers)
@@ -74,7 +72,7 @@ fn attrs_of(alloc: Global, counts: &Counts) -> Result<Attrs, NoMemory> {
     Ok(attrs)
 }
 
-/// How many values each list has.
+// How many values each list has.
 #[derive(Clone, Copy)]
 struct Counts {
     path: usize,
@@ -139,7 +137,7 @@ fn a_prefix_has_no_bit_past_its_length(rt: HostRuntime) {
         ("2001:db8::/28", Addr::V6(0x2001_0DB8 << 96), 28, false),
         ("::/129", Addr::V6(0), 129, false),
     ];
-    for (case, addr, len, wanted) in table {
+    'cases: for (case, addr, len, wanted) in table {
         assert_eq!(rt;
             Prefix::new(addr, len).map(|p| p.addr()),
             wanted.then_some(addr),
@@ -166,11 +164,13 @@ fn keys_stand_by_family_address_length_and_identifier(rt: HostRuntime) -> Result
         (Addr::V6(0x2001_0DB8 << 96), 32, 0),
     ];
     let mut before = key(Addr::V4(0), 0, 0)?;
-    for (addr, len, id) in table {
+    'keys: for (addr, len, id) in table {
         let after = key(addr, len, id)?;
         assert!(rt; before < after, "{addr:?}/{len}");
         before = after;
     }
+    keys_are_ordered();
+    assert_eq!(rt; before.prefix.len(), 32);
     Ok(())
 }
 
@@ -181,7 +181,7 @@ fn an_external_neighbour_is_sent_the_own_as(rt: HostRuntime) -> Result<(), Fail>
     assert_eq!(rt; sent.hop, HOP);
     assert_eq!(rt; sent.origin, Origin::Igp);
     assert_eq!(rt; sent.path.segments().len(), 1);
-    for segment in sent.path.segments() {
+    'segments: for segment in sent.path.segments() {
         assert!(rt; !segment.set);
         assert_eq!(rt; segment.numbers.as_slice(), [OWN].as_slice());
     }
@@ -285,7 +285,7 @@ fn attributes_are_within_their_limits_up_to_each_limit(rt: HostRuntime) -> Resul
             false,
         ),
     ];
-    for (case, counts, wanted) in table {
+    'cases: for (case, counts, wanted) in table {
         let attrs = found(attrs_of(rt.alloc(), &counts))?;
         assert_eq!(rt; attrs.is_within_limits(), wanted, "{case}");
     }
