@@ -1,10 +1,9 @@
--- The derived tests of prefixes and keys are the definitions', and so is their derived order. A crate whose map has such
--- keys carries what the map says over to the definitions by `subst` along these paths.
+-- The derived tests of prefixes and keys are the definitions', and so is their derived order. A crate whose map has
+-- such keys carries what the map says over to the definitions by `subst` along these paths.
 use Rattle.std.proofs.Common.{ℕ, ◌≡◌, ◌==◌, ◌&&◌, [], refl, ap, ◌∙◌, replicate}
 use Rattle.std.specs.Prelude.{nat_eq}
 use Rattle.std.specs.Cmp.{unsigned_tied}
 use Rattle.std.specs.Cmp.Lexicographic.{pointwise, slice_cmp, texts_ties}
-use Rattle.std.specs.declared.cmp.Ordering.{Ordering}
 use Rattle.std.specs.Ordering.{nat_cmp, is_eq, ordering_then}
 use Rattle.route_values.specs.declared.addr.Addr.{Addr}
 use Rattle.route_values.specs.declared.addr.Addr.TheVariants.{V4, V6}
@@ -46,16 +45,19 @@ parts_tested (V4 a) (V6 b) m n = refl
 parts_tested (V6 a) (V4 b) m n = refl
 parts_tested (V6 a) (V6 b) m n = ap (λ same. same && (m == n)) (sixteen_eq a b)
 
--- prefixes that the derived `==` takes for one are the same
-pub same_prefix : (a b : Block) → prefix_test.eq a b ≡ same_block a b
-same_prefix a b = parts_tested a.addr b.addr a.len b.len
+-- the derived `==` of prefixes tells whether they are the same
+pub prefix_tested : (a b : Block) → prefix_test.eq a b ≡ same_block a b
+prefix_tested a b = parts_tested a.addr b.addr a.len b.len
 
 pub prefix_tests : prefix_test.eq ≡ same_block
-prefix_tests = λ i a b. same_prefix a b i
+prefix_tests = λ i a b. prefix_tested a b i
 
--- and so are keys
+-- and that of keys
+pub key_tested : (a b : Key) → key_test.eq a b ≡ same_key a b
+key_tested a b = ap (λ same. same && (a.id == b.id)) (prefix_tested a.prefix b.prefix)
+
 pub key_tests : key_test.eq ≡ same_key
-key_tests = λ i a b. same_prefix a.prefix b.prefix i && (a.id == b.id)
+key_tests = λ i a b. key_tested a b i
 
 -- ---- order
 
@@ -73,5 +75,8 @@ pub prefix_orders : prefix_order.cmp ≡ block_cmp
 prefix_orders = λ i a b. prefix_ordered a b i
 
 -- and so are keys
+pub key_ordered : (a b : Key) → key_order.cmp a b ≡ key_cmp a b
+key_ordered a b = ap (λ order. ordering_then order (nat_cmp a.id b.id)) (prefix_ordered a.prefix b.prefix)
+
 pub key_orders : key_order.cmp ≡ key_cmp
-key_orders = λ i a b. ordering_then (prefix_ordered a.prefix b.prefix i) (nat_cmp a.id b.id)
+key_orders = λ i a b. key_ordered a b i

@@ -1,5 +1,5 @@
 -- The tests of keys tell them apart.
-use Rattle.std.proofs.Common.{ℕ, ◌≡◌, ◌==◌, ◌&&◌, Bool, true, false, ap, refl, ◌∙◌}
+use Rattle.std.proofs.Common.{ℕ, ◌≡◌, ◌==◌, true, ap, refl, ◌∙◌}
 use Rattle.std.proofs.lemmas.Bool.{eqb-true, eq-eqb, and_parts, and_from}
 use Rattle.route_values.specs.declared.addr.Addr.{Addr}
 use Rattle.route_values.specs.declared.addr.Addr.TheVariants.{V4, V6}
@@ -31,7 +31,8 @@ same_block_is a b h =
     ap (block a.len) addrs ∙ ap (λ n. block n b.addr) lens
 
 pub same_block-self : (a : Block) → same_block a a ≡ true
-same_block-self a = and_from (same_addr a.addr a.addr) (a.len == a.len) (same_addr-self a.addr) (eq-eqb a.len a.len refl)
+same_block-self a = and_from (same_addr a.addr a.addr) (a.len == a.len) (same_addr-self a.addr)
+    (eq-eqb a.len a.len refl)
 
 pub same_key_is : (a b : Key) → same_key a b ≡ true → a ≡ b
 same_key_is a b h =
@@ -41,4 +42,5 @@ same_key_is a b h =
     ap (key a.id) blocks ∙ ap (λ n. key n b.prefix) ids
 
 pub same_key-self : (a : Key) → same_key a a ≡ true
-same_key-self a = and_from (same_block a.prefix a.prefix) (a.id == a.id) (same_block-self a.prefix) (eq-eqb a.id a.id refl)
+same_key-self a = and_from (same_block a.prefix a.prefix) (a.id == a.id) (same_block-self a.prefix)
+    (eq-eqb a.id a.id refl)

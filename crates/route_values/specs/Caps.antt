@@ -12,6 +12,16 @@ pub record Caps : Type 0 where
   pub ipv6_path : Bool
   pub extended : Bool
 
+-- capabilities by their five flags
+abbrev pub flags : Bool → Bool → Bool → Bool → Bool → Caps
+flags ipv4 ipv6 ipv4_path ipv6_path extended = record {
+  ipv4 = ipv4;
+  ipv6 = ipv6;
+  ipv4_path = ipv4_path;
+  ipv6_path = ipv6_path;
+  extended = extended;
+}
+
 -- a family has path identifiers only where it is carried
 pub record AreKept (caps : Caps) : Type 0 where
   pub ipv4 : IsTrue caps.ipv4_path → IsTrue caps.ipv4
@@ -19,7 +29,7 @@ pub record AreKept (caps : Caps) : Type 0 where
 
 -- no family, and messages of 4,096 bytes
 abbrev pub no_caps : Caps
-no_caps = record { ipv4 = false; ipv6 = false; ipv4_path = false; ipv6_path = false; extended = false }
+no_caps = flags false false false false false
 
 -- the family is carried, with path identifiers or without; all else is as before
 abbrev pub with_family : Caps → Family → Bool → Caps

@@ -1,10 +1,10 @@
 -- What is sent for attributes as they were written.
-use Rattle.std.specs.Prelude.{◌≡◌, ℕ, Bool, true, false, not, nat_eq, ◌==◌, ◌&&◌, if◌then◌else◌, List, [], ◌∷◌, filter, Option, Some, None, unwrap_or}
+use Rattle.std.specs.Prelude.{ℕ, Bool, false, not, nat_eq, ◌==◌, ◌&&◌, if◌then◌else◌, List, [], ◌∷◌, filter}
+use Rattle.std.specs.Prelude.{Option, Some, None, unwrap_or}
 use Rattle.std.specs.Cmp.Lexicographic.{pointwise}
 use Rattle.route_values.specs.declared.addr.Addr.{Addr}
 use Rattle.route_values.specs.declared.attrs.Hop.{Hop}
 use Rattle.route_values.specs.declared.attrs.Hop.TheVariants.{Own, Is}
-use Rattle.route_values.specs.declared.attrs.Origin.{Origin}
 use Rattle.route_values.specs.declared.attrs.Origin.TheVariants.{Igp}
 use Rattle.route_values.specs.declared.attrs.Large.{Large}
 use Rattle.route_values.specs.declared.attrs.Attrs.{Attrs}

@@ -19,22 +19,28 @@ pub struct Caps {
 }
 
 impl Model for Caps {
-    ghost use Rattle.route_values.specs.Caps.{Caps, AreKept};
+    ghost use Rattle.route_values.specs.Caps.{Caps, AreKept, flags};
 
     ghost Value = { Caps };
 
-    ghost view = { λ c. record { ipv4 = c.ipv4; ipv6 = c.ipv6; ipv4_path = c.ipv4_path; ipv6_path = c.ipv6_path; extended = c.extended } };
+    ghost view = { λ c. flags c.ipv4 c.ipv6 c.ipv4_path c.ipv6_path c.extended };
 
-    ghost invariant = { λ c. AreKept (record { ipv4 = c.ipv4; ipv6 = c.ipv6; ipv4_path = c.ipv4_path; ipv6_path = c.ipv6_path; extended = c.extended }) };
+    ghost invariant = { λ c. AreKept (flags c.ipv4 c.ipv6 c.ipv4_path c.ipv6_path c.extended) };
 
-    ghost inverse = { λ c. record { ipv4 = c.ipv4; ipv6 = c.ipv6; ipv4_path = c.ipv4_path; ipv6_path = c.ipv6_path; extended = c.extended } };
+    ghost inverse = { λ c. record {
+      ipv4 = c.ipv4;
+      ipv6 = c.ipv6;
+      ipv4_path = c.ipv4_path;
+      ipv6_path = c.ipv6_path;
+      extended = c.extended;
+    } };
 }
 
 impl Caps {
     ghost use Rattle.route_values.specs.Caps.{no_caps, with_family, with_extended};
 
     /// No family, and messages of 4,096 bytes.
-    pub const fn none() -> Caps
+    pub fn none() -> Caps
         ensures { result ≡ no_caps }
     {
         Caps {
@@ -47,7 +53,7 @@ impl Caps {
     }
 
     /// The same, with routes of the family carried, and with path identifiers for its prefixes or without.
-    pub const fn with(self, family: Family, path: bool) -> Caps
+    pub fn with(self, family: Family, path: bool) -> Caps
         ensures { result ≡ with_family self family path }
     {
         match family {
@@ -65,7 +71,7 @@ impl Caps {
     }
 
     /// The same, with messages of up to 65,535 bytes.
-    pub const fn with_extended(self) -> Caps
+    pub fn with_extended(self) -> Caps
         ensures { result ≡ with_extended self }
     {
         Caps {
@@ -75,7 +81,7 @@ impl Caps {
     }
 
     /// Whether routes of the family are carried.
-    pub const fn has(&self, family: Family) -> bool
+    pub fn has(&self, family: Family) -> bool
         ensures { result ≡ has_family self.now family }
     {
         match family {
@@ -85,7 +91,7 @@ impl Caps {
     }
 
     /// Whether prefixes of the family have path identifiers.
-    pub const fn path(&self, family: Family) -> bool
+    pub fn path(&self, family: Family) -> bool
         ensures value { result ≡ has_path self.now family }
         ensures kept { IsTrue result → IsTrue (has_family self.now family) }
     {
@@ -96,7 +102,7 @@ impl Caps {
     }
 
     /// Whether messages may have up to 65,535 bytes.
-    pub const fn extended(&self) -> bool
+    pub fn extended(&self) -> bool
         ensures { result ≡ self.now.extended }
     {
         self.extended

@@ -12,7 +12,7 @@ impl AsPath {
         ensures { IfOk result (λ copied. copied ≡ self.now) }
     {
         let mut segments = Vec::new(alloc);
-        for segment in self.segments() {
+        'segments: for segment in self.segments() {
             segments.push(Segment {
                 set: segment.set,
                 numbers: segment.numbers.copy(alloc)?,

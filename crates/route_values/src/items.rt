@@ -91,7 +91,7 @@ impl<T: Copy + PartialEq> Items<T> {
         ensures { IfOk result (λ kept. kept ≡ first_places T.eq self.now) }
     {
         let mut kept = Vec::new(alloc);
-        for item in &self.items {
+        'items: for item in &self.items {
             if !kept.contains(item) {
                 kept.push(*item)?;
             }

@@ -7,6 +7,11 @@ ghost use Rattle.route_values.specs.Prefix.{IsPrefix};
 use crate::addr::{Addr, Family};
 use std::marker::Model;
 
+// How many bits an address of each family has.
+const IPV4_BITS: u8 = 32;
+
+const IPV6_BITS: u8 = 128;
+
 /// The addresses that begin with the first `len` bits of an address (RFC 4271, section 4.3).
 /// The address's other bits are zero.
 ///
@@ -31,9 +36,17 @@ impl Model for Prefix {
 
     ghost invariant = { λ p. IsStored p.family p.bytes p.len };
 
-    ghost inverse = { λ b. record { family = family_of b.addr; bytes = octets_of b.addr; len = b.len } };
+    ghost inverse = { λ b. record {
+      family = family_of b.addr;
+      bytes = octets_of b.addr;
+      len = b.len;
+    } };
 
-    ghost inverse_ok = { λ p h i. record { family = family_held p.family p.bytes i; bytes = h.held i; len = p.len } };
+    ghost inverse_ok = { λ p h i. record {
+      family = family_held p.family p.bytes i;
+      bytes = h.held i;
+      len = p.len;
+    } };
 }
 
 impl Prefix {
@@ -106,8 +119,8 @@ fn is_prefix(addr: Addr, len: u8) -> bool
     ensures { IsTrue result ↔ IsPrefix addr len }
 {
     let (number, width) = match addr {
-        Addr::V4(number) => (u128::from(number), 32),
-        Addr::V6(number) => (number, 128),
+        Addr::V4(number) => (u128::from(number), IPV4_BITS),
+        Addr::V6(number) => (number, IPV6_BITS),
     };
     len <= width && ends_in_zeros(number, width - len)
 }
@@ -117,7 +130,7 @@ fn ends_in_zeros(number: u128, bits: u8) -> bool
     requires { bits ≤ 128 }
     ensures { IsTrue result ↔ (number % 2 ^ bits ≡ 0) }
 {
-    if bits == 128 {
+    if bits == IPV6_BITS {
         number == 0
     } else {
         number % (1 << bits) == 0

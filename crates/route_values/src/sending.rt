@@ -1,5 +1,6 @@
 //! What is sent for attributes as they were written.
 ghost use Rattle.std.specs.Prelude.{◌≡◌, IfOk};
+ghost use Rattle.route_values.specs.Limits.{counts_written, counts_sent, IsWithinLimits};
 ghost use Rattle.route_values.specs.Sent.{hop_sent, path_sent, local_pref_sent, sent};
 
 use crate::addr::Addr;
@@ -10,7 +11,7 @@ use crate::settings::Side;
 use answers::NoMemory;
 use std::alloc::Global;
 
-/// The LOCAL_PREF that a neighbour of the own AS is sent where none was written.
+// The LOCAL_PREF that a neighbour of the own AS is sent where none was written.
 const DEFAULT_LOCAL_PREF: u32 = 100;
 
 /// The attributes as they are sent to a neighbour.
@@ -18,9 +19,11 @@ const DEFAULT_LOCAL_PREF: u32 = 100;
 /// An unwritten origin is IGP. An unwritten path is one sequence of the local AS for a neighbour of another AS, and
 /// empty for one of the own AS. LOCAL_PREF goes to a neighbour of the own AS alone, as 100 where it wasn't written
 /// (RFC 4271, section 5.1.5). The next hop `self` is the local address. Each value of the four lists is sent at its
-/// first place alone. All else is sent as it was written.
+/// first place alone. All else is sent as it was written. So attributes within their limits are sent within them.
 pub fn wire(alloc: Global, attrs: &Attrs, side: &Side) -> Result<WireAttrs, NoMemory>
-    ensures { IfOk result (λ w. w ≡ sent attrs.now side.now) }
+    ensures value { IfOk result (λ w. w ≡ sent attrs.now side.now) }
+    ensures within { IsWithinLimits (counts_written attrs.now)
+        → IfOk result (λ w. IsWithinLimits (counts_sent w)) }
 {
     Ok(WireAttrs {
         hop: hop_of(attrs.hop, side),

@@ -1,5 +1,5 @@
 use Rattle.std.proofs.Common.{◌≡◌, take}
 use Rattle.route_values.proofs.path.AsPath.copy.Given as goal
 
-abbrev pub invariant-loop-segment : goal.invariant-loop-segment
-invariant-loop-segment l = l.segments.items ≡ take l.segment-index l.segment-items
+abbrev pub invariant-segments : goal.invariant-segments
+invariant-segments l = l.segments.items ≡ take l.segment-index l.segment-items
