@@ -6,7 +6,7 @@ ghost use Rattle.attr_codec.specs.Sizes.{IsShort};
 mod bodies;
 mod faults;
 mod fronts;
-mod longest_body;
+mod long_bodies;
 mod messages;
 mod opened;
 mod reached;

@@ -22,13 +22,13 @@ use attr_codec::codes::{
 use attr_codec::numbers::{read_u16, u16_bytes};
 use route_values::Key;
 
-/// Where the flags of an attribute stand (RFC 4271, section 4.3).
+// Where the flags of an attribute stand (RFC 4271, section 4.3).
 const FLAGS: usize = 0;
 
 /// Where the code of an attribute stands, from its flags on (RFC 4271, section 4.3).
 pub const CODE: usize = 1;
 
-/// How many bytes an attribute has whose value has 255 bytes, the longest with a length of one byte.
+// How many bytes an attribute has whose value has 255 bytes, the longest with a length of one byte.
 const SHORT_END: usize = HEAD_LEN + SHORT_MAX;
 
 /// Where an attribute stands, in bytes from the front of its message.

@@ -16,16 +16,16 @@ ghost use Rattle.update_codec.specs.Unsealed.{unsealed};
 use attr_codec::Message;
 use attr_codec::numbers::u16_bytes;
 
-/// The marker at the front of each message (RFC 4271, section 4.1).
+// The marker at the front of each message (RFC 4271, section 4.1).
 const MARKER: [u8; 16] = [255; 16];
 
-/// The type of UPDATE messages (RFC 4271, section 4.1).
+// The type of UPDATE messages (RFC 4271, section 4.1).
 const UPDATE: u8 = 2;
 
-/// The length of the withdrawn prefixes where there is none.
+// The length of the withdrawn prefixes where there is none.
 const NO_WITHDRAWN: [u8; 2] = [0, 0];
 
-/// Where the length of the attributes stands, if no route is withdrawn (RFC 4271, section 4.3).
+// Where the length of the attributes stands, if no route is withdrawn (RFC 4271, section 4.3).
 const ATTRIBUTES_LEN: usize = 21;
 
 /// How many bytes the length of a field has (RFC 4271, section 4.3).

@@ -15,7 +15,7 @@ use super::frame::{FRAME_LEN, put_frame};
 use attr_codec::{Message, append_attrs, append_unreach, attrs_len};
 use route_values::{Family, WireAttrs};
 
-/// How many bytes an MP_UNREACH_NLRI without prefixes has: flags, code, length and family (RFC 4760, section 4).
+// How many bytes an MP_UNREACH_NLRI without prefixes has: flags, code, length and family (RFC 4760, section 4).
 const UNREACH_LEN: usize = 6;
 
 /// Writes an announcement without prefixes: header, attributes, and all lengths. Prefixes of the family may follow,
@@ -33,6 +33,7 @@ pub fn open_here(out: &mut Message, attrs: &WireAttrs, family: Family) -> bool
     ensures within { IsSendable family attrs.now → IsWithinLimits (counts_sent attrs.now)
         → IsTrue result }
 
+    // What is left where it fits, and where it doesn't.
     ensures len { OnTrue result (length out.new.bytes ≡ 23 + attributes_size family attrs.now) }
     ensures ok { (caps : Caps) →
         OnTrue result (Appended out.old out.new (written caps (head.Here family attrs.now) [])) }

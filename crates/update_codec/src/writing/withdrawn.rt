@@ -28,7 +28,7 @@ use attr_codec::codes::MP_UNREACH_NLRI;
 use attr_codec::numbers::u16_bytes;
 use route_values::{Caps, Family, Key};
 
-/// Where the length of the withdrawn routes stands (RFC 4271, section 4.3).
+// Where the length of the withdrawn routes stands (RFC 4271, section 4.3).
 const WITHDRAWN_LEN: usize = 19;
 
 /// Puts one more prefix into a withdrawal of its family, and makes all lengths right. It has its identifier exactly
