@@ -14,12 +14,13 @@ fn main(rt: HostRuntime) -> ExitCode {
         Err(status) => status,
     };
     if let Some(text) = status.text() {
+        // Where standard error fails there is nowhere left to say so.
         let _ = eprintln!(rt; "exabgp: {text}");
     }
     ExitCode::from(status.number())
 }
 
-// The arguments behind the program's name. One that isn't UTF-8 is part of no command.
+// The arguments behind the program's name.
 fn words_of(rt: &HostRuntime) -> Result<Vec<String>, Status> {
     let args = match env::args(rt) {
         Ok(args) => args,
@@ -34,6 +35,8 @@ fn words_of(rt: &HostRuntime) -> Result<Vec<String>, Status> {
     Ok(words)
 }
 
+// What a program ends with that wasn't given its arguments. One that isn't UTF-8 is part of no command; any other cause
+// is want of memory.
 fn status_of(error: &io::Error) -> Status {
     match error.kind() {
         ErrorKind::InvalidData => Status::Usage,
@@ -41,6 +44,7 @@ fn status_of(error: &io::Error) -> Status {
     }
 }
 
+// Runs the command that the words spell, over the system's streams and files.
 fn run(rt: &HostRuntime, words: &[String]) -> Status {
     let mut texts = Vec::new(rt.alloc());
     for word in words {
