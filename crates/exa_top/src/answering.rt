@@ -37,7 +37,7 @@ pub fn answer_all(replies: &mut Vec<u8>, table: &mut Table, input: &[u8]) -> Res
     Ok(())
 }
 
-/// Answers one line, and does what it says.
+// Answers one line, and does what it says.
 fn answer(table: &mut Table, line: Line<'_>) -> Reply
     requires { IsTable table.old.entries }
     ensures { Took (line_told line.entry) table.old.entries table.new.entries result }

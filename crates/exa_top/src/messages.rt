@@ -19,7 +19,7 @@ use std::alloc::Global;
 use update_codec::{limits_fit, open_here, put_end_of_rib, put_nlri};
 use update_grammar::written_is_spelled;
 
-/// How many bytes a message has at most (RFC 4271, section 4).
+// How many bytes a message has at most (RFC 4271, section 4).
 const MAX_MESSAGE: usize = 4096;
 
 /// Puts at the end of a text a line for each message that announces what a table says.

@@ -5,10 +5,10 @@ use std::test::Fail;
 
 const ROUTE: &str = "announce route 10.0.0.0/24 next-hop 192.0.2.1\n";
 
-/// The End-of-RIB marker of IPv4 as the last message.
+// The End-of-RIB marker of IPv4 as the last message.
 const END: &str = "update 0 last FFFFFFFFFFFFFFFFFFFFFFFFFFFFFFFF00170200000000\n";
 
-/// How a command ended, what it wrote, and how often its input and its output failed.
+// How a command ended, what it wrote, and how often its input and its output failed.
 #[derive(Drop)]
 struct Outcome {
     status: Status,
@@ -17,10 +17,10 @@ struct Outcome {
     writes_failed: u64,
 }
 
-/// How many bytes the sink of a test keeps.
+// How many bytes the sink of a test keeps.
 const ROOM: usize = 1 << 20;
 
-/// Runs a command whose listed reads and writes fail, and whose sink takes 20 bytes a call.
+// Runs a command whose listed reads and writes fail, and whose sink takes 20 bytes a call.
 fn run(
     alloc: Global,
     words: &[&str],
@@ -163,7 +163,7 @@ fn a_fault_of_the_outside_ends_the_command(rt: HostRuntime) -> Result<(), Fail> 
     Ok(())
 }
 
-/// A text filled up with spaces to so many bytes, as a line.
+// A text filled up with spaces to so many bytes, as a line.
 fn line_of(alloc: Global, text: &str, count: usize) -> Result<String, Fail> {
     let mut line = String::new(alloc);
     line.push_str(text)?;

@@ -16,13 +16,13 @@ use route_values::Side;
 use std::alloc::Global;
 use update_grammar::written_is_spelled;
 
-/// How many bytes of input are too many.
+// How many bytes of input are too many.
 const MAX_INPUT: usize = 1 << 40;
 
-/// What `--version` writes.
+// What `--version` writes.
 const VERSION: &[u8] = b"exabgpd 0.1.0\n";
 
-/// What `--help` writes.
+// What `--help` writes.
 const HELP: &[u8] = b"usage: exabgpd encode LOCAL_AS PEER_AS LOCAL_IP\n\
 \x20          reads announce and withdraw lines, writes replies and UPDATE messages\n\
 \x20      exabgpd --help\n\

@@ -8,7 +8,7 @@ use crate::cutting::cut;
 use crate::decimals::octet;
 use route_values::{Addr, Prefix};
 
-/// How many bits an IPv4 address has.
+// How many bits an IPv4 address has.
 const WIDTH: u8 = 32;
 
 /// The IPv4 address that a text spells: four numbers up to 255 joined by dots, the highest byte first.

@@ -9,7 +9,7 @@ ghost use Rattle.text_forms.specs.LineTold.{line_told};
 use crate::cutting::cut;
 use crate::word::is_blank;
 
-/// How many bytes a line has at most. Its carriage return counts, its line feed doesn't.
+// How many bytes a line has at most. Its carriage return counts, its line feed doesn't.
 const MAX_LINE: usize = 65_535;
 
 /// A line of a stream, without the line feed that ended it and without one carriage return before that.
