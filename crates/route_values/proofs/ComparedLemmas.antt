@@ -1,10 +1,11 @@
 -- The derived tests of prefixes and keys are the definitions', and so is their derived order. A crate whose map has
 -- such keys carries what the map says over to the definitions by `subst` along these paths.
-use Rattle.std.proofs.Common.{ℕ, ◌≡◌, ◌==◌, ◌&&◌, [], refl, ap, ◌∙◌, replicate}
+use Rattle.std.proofs.Common.{ℕ, ◌≡◌, ◌==◌, ◌&&◌, [], refl, sym, ap, ◌∙◌, replicate}
 use Rattle.std.specs.Prelude.{nat_eq}
 use Rattle.std.specs.Cmp.{unsigned_tied}
 use Rattle.std.specs.Cmp.Lexicographic.{pointwise, slice_cmp, texts_ties}
 use Rattle.std.specs.Ordering.{nat_cmp, is_eq, ordering_then}
+use Rattle.std.proofs.lemmas.List.{append-nil}
 use Rattle.route_values.specs.declared.addr.Addr.{Addr}
 use Rattle.route_values.specs.declared.addr.Addr.TheVariants.{V4, V6}
 use Rattle.route_values.specs.declared.key.Key.{Key}
@@ -13,7 +14,7 @@ use Rattle.route_values.specs.contracts.prefix.PrefixOrd.TheImpl.{ghosts as pref
 use Rattle.route_values.specs.contracts.key.KeyPartialEq.TheImpl.{ghosts as key_test}
 use Rattle.route_values.specs.contracts.key.KeyOrd.TheImpl.{ghosts as key_order}
 use Rattle.route_values.specs.Key.{same_block, same_key}
-use Rattle.route_values.specs.Octets.{octets_of}
+use Rattle.route_values.specs.Octets.{octets_of, places}
 use Rattle.route_values.specs.Order.{block_cmp, key_cmp}
 use Rattle.route_values.specs.Prefix.{Block}
 use Rattle.route_values.proofs.OctetsLemmas.{places_by}
@@ -26,7 +27,8 @@ four_cmp m n = places_by 3 m n (replicate 12 0) refl
 
 sixteen_cmp : (m n : ℕ) → slice_cmp nat_cmp (octets_of (V6 m)) (octets_of (V6 n)) ≡ nat_cmp m n
 unfolding octets_of
-sixteen_cmp m n = places_by 15 m n [] refl
+sixteen_cmp m n =
+    sym (λ i. slice_cmp nat_cmp (append-nil (places 15 m) i) (append-nil (places 15 n) i)) ∙ places_by 15 m n [] refl
 
 four_eq : (m n : ℕ) → pointwise nat_eq (octets_of (V4 m)) (octets_of (V4 n)) ≡ (m == n)
 four_eq m n = texts_ties (octets_of (V4 m)) (octets_of (V4 n)) ∙ ap is_eq (four_cmp m n) ∙ unsigned_tied m n

@@ -1,5 +1,5 @@
 -- The bytes that hold an address give the address back, and are compared as their numbers are.
-use Rattle.std.proofs.Common.{ℕ, zero, suc, ◌≡◌, ◌+◌, ◌*◌, ◌/◌, ◌%◌, ◌^◌, ◌<◌, List, [], ◌∷◌, ◌++◌, replicate}
+use Rattle.std.proofs.Common.{ℕ, zero, suc, ◌≡◌, ◌+◌, ◌*◌, ◌/◌, ◌%◌, ◌^◌, ◌<◌, List, ◌∷◌, ◌++◌, replicate}
 use Rattle.std.proofs.Common.{get_or, refl, sym, ap, subst, ◌∙◌, arith}
 use Rattle.std.specs.Int.{w32, w128, from_be_bytes, to_be_bytes, bytes_high_first, byte_at}
 use Rattle.std.specs.Cmp.{nat_cmp_is}
@@ -11,7 +11,6 @@ use Rattle.std.proofs.Math.Arith.{mod-mul}
 use Rattle.std.proofs.Math.Nat.{div-one, mod-lt, mod-eq_of_lt, pow-succ', one-le-pow, mul-le-mul_right}
 use Rattle.std.proofs.lemmas.Cmp.{ranked}
 use Rattle.std.proofs.lemmas.Nat.{div_below, div-add-mod'}
-use Rattle.std.proofs.lemmas.List.{append-nil}
 use Rattle.route_values.specs.declared.addr.Addr.{Addr}
 use Rattle.route_values.specs.declared.addr.Addr.TheVariants.{V4, V6}
 use Rattle.route_values.specs.declared.addr.Family.{Family}
@@ -46,8 +45,8 @@ places_are_bytes k n small =
 four_again : (n : ℕ) (behind : List ℕ) → from_be_bytes w32 (places 3 n ++ behind) ≡ n
 four_again n behind = omega (arith, one_byte 0 n, one_byte 1 n, one_byte 2 n, div-add-mod' n (256 ^ 3))
 
-sixteen_again : (n : ℕ) (behind : List ℕ) → from_be_bytes w128 (places 15 n ++ behind) ≡ n
-sixteen_again n behind =
+sixteen_again : (n : ℕ) → from_be_bytes w128 (places 15 n) ≡ n
+sixteen_again n =
     omega (
       arith,
       one_byte 0 n,
@@ -72,7 +71,7 @@ sixteen_again n behind =
 pub held_again : (addr : Addr) → addr_held (family_of addr) (octets_of addr) ≡ addr
 unfolding octets_of
 held_again (V4 n) = ap (λ m. V4 m) (four_again n (replicate 12 0))
-held_again (V6 n) = ap (λ m. V6 m) (sixteen_again n [])
+held_again (V6 n) = ap (λ m. V6 m) (sixteen_again n)
 
 -- ---- what is made of an address
 
@@ -86,8 +85,7 @@ four_octets n bytes small is =
 
 pub sixteen_octets : (n : ℕ) (bytes : List ℕ) → n < 2 ^ 128 → bytes ≡ to_be_bytes w128 n → bytes ≡ octets_of (V6 n)
 unfolding octets_of
-sixteen_octets n bytes small is =
-    is ∙ sym (places_are_bytes 15 n (omega (arith, small))) ∙ sym (append-nil (places 15 n))
+sixteen_octets n bytes small is = is ∙ sym (places_are_bytes 15 n (omega (arith, small)))
 
 -- what is held and stored where family and bytes are those of an address
 pub held_is : (addr : Addr) (family : Family) (bytes : List ℕ) → family ≡ family_of addr → bytes ≡ octets_of addr

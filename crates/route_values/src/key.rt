@@ -9,7 +9,7 @@ use crate::items::Items;
 use crate::prefix::Prefix;
 
 /// What names a route at a neighbour: a prefix with a path identifier (RFC 7911, section 3), which is 0 where none
-/// was written.
+/// was written. A key takes 24 bytes.
 ///
 /// # Order
 /// By prefix, then by identifier. [`keys_are_ordered`] says so.
