@@ -1,17 +1,18 @@
 -- What a command that was run shows of its devices, by how it ended.
-use Rattle.std.proofs.Common.{ℕ, ◌≡◌, ◌<◌, true, List, [], ◌++◌, length, Option, Some, None, refl, sym}
+use Rattle.std.proofs.Common.{ℕ, ◌≡◌, ◌<◌, List, [], ◌++◌, length, Option, Some, None, refl, sym}
 use Rattle.std.proofs.Common.{ap, subst, arith, append-nil, length-append, inl, inr}
 use Rattle.route_values.specs.declared.addr.Family.TheVariants.{Ipv4}
 use Rattle.route_values.specs.declared.settings.Side.{Side}
 use Rattle.outside.specs.Seen.{SourceSeen, SinkSeen}
-use Rattle.outside.specs.Told.{Grows, Shrinks, CountsOne}
+use Rattle.outside.specs.Told.{Grows, CountsOne}
 use Rattle.update_grammar.specs.Laws.{EndIsSpelled}
 use Rattle.exa_top.specs.declared.status.Status.{Status}
 use Rattle.exa_top.specs.declared.status.Status.TheVariants as status
 use Rattle.exa_top.specs.declared.words.TextCommand.{TextCommand}
 use Rattle.exa_top.specs.declared.words.TextCommand.TheVariants.{Encode, Help, Version}
 use Rattle.exa_top.specs.Encoding.{IsEncoding, marker, last_text}
-use Rattle.exa_top.specs.Top.{input_limit, IsOutput, ReadToEnd, ReadsWhole, ReadPart, Broke, GaveLimit, GaveFrom}
+use Rattle.exa_top.specs.Top.{input_limit, IsOutput, ReadToEnd, ReadsWhole, ReadPart, ReadNothing, ReadsPart, Broke, GaveLimit}
+use Rattle.exa_top.specs.Top.{GaveFrom}
 use Rattle.exa_top.specs.Top.{Answered, Wrote}
 use Rattle.exa_top.proofs.OutputLemmas.{some_encoding, parted}
 
@@ -20,12 +21,9 @@ grows_none : (told : Option (List ℕ)) → Grows told told []
 grows_none None = tt
 grows_none (Some bytes) = sym (append-nil bytes)
 
-shrinks_none : (told : Option (List ℕ)) → Shrinks told told []
-shrinks_none None = tt
-shrinks_none (Some bytes) = refl
-
-read_none : (source : SourceSeen) → ReadPart source source []
-read_none source = record { given = grows_none source.given; left = shrinks_none source.left; short = omega arith }
+-- what isn't touched gave nothing
+pub read_none : (source : SourceSeen) → ReadNothing source source []
+read_none source = record { same = refl; none = refl }
 
 -- fewer bytes than a limit don't reach it
 few_given : (limit : ℕ) (given given' : Option (List ℕ)) (bytes : List ℕ) → Grows given given' bytes
@@ -42,10 +40,10 @@ whole_is_few (Encode side) source source' bytes whole = few_given input_limit so
     whole.given whole.short
 whole_is_few Help source source' bytes whole = λ from.
     let none : SourceSeen → Type 0 = λ seen. GaveFrom input_limit source.given seen.given in
-    few_given input_limit source.given source.given [] (grows_none source.given) (omega arith) (subst none whole.0 from)
+    few_given input_limit source.given source.given [] (grows_none source.given) (omega arith) (subst none whole.same from)
 whole_is_few Version source source' bytes whole = λ from.
     let none : SourceSeen → Type 0 = λ seen. GaveFrom input_limit source.given seen.given in
-    few_given input_limit source.given source.given [] (grows_none source.given) (omega arith) (subst none whole.0 from)
+    few_given input_limit source.given source.given [] (grows_none source.given) (omega arith) (subst none whole.same from)
 
 -- a part of a read whole
 pub part_of_whole : (source source' : SourceSeen) (bytes : List ℕ) → ReadToEnd source source' bytes
@@ -58,9 +56,9 @@ part_of_whole source source' bytes whole = record {
 
 -- a command that read what it had to and then wrote
 pub written : (command : TextCommand) (source source' : SourceSeen) (sink sink' : SinkSeen) (input early late : List ℕ)
-    (ends : Status) → ReadsWhole command source source' input → ReadPart source source' input
+    (ends : Status) → ReadsWhole command source source' input → ReadsPart command source source' input
     → IsOutput command input early late
-    → ((part rest : List ℕ) → early ++ late ≡ part ++ rest → length early < length part → source'.ended ≡ true)
+    → ((part rest : List ℕ) → early ++ late ≡ part ++ rest → length early < length part → ReadToEnd source source' input)
     → source'.faults ≡ source.faults → Wrote (early ++ late) sink sink' ends
     → Answered command source source' sink sink' ends
 written command source source' sink sink' input early late status.Ok whole part outcome in_time same wrote = record {
@@ -87,7 +85,7 @@ written command source source' sink sink' input early late status.WriteFault who
         outcome = outcome;
         front = (wrote.0.1, wrote.0.2);
         written = wrote.0.3;
-        ended = in_time wrote.0.0 wrote.0.1 wrote.0.2;
+        past = in_time wrote.0.0 wrote.0.1 wrote.0.2;
       };
       read = λ is. absurd (cc);
       read_same = λ other. same;
@@ -116,12 +114,13 @@ none_longer text part rest is longer = absurd (omega (
 
 -- a command that writes a text of its own
 pub text_written : (command : TextCommand) (source : SourceSeen) (sink sink' : SinkSeen) (text : List ℕ) (ends : Status)
-    → ReadsWhole command source source [] → IsOutput command [] text [] → Wrote text sink sink' ends
+    → ReadsWhole command source source [] → ReadsPart command source source [] → IsOutput command [] text []
+    → Wrote text sink sink' ends
     → Answered command source source sink sink' ends
-text_written command source sink sink' text ends whole outcome wrote =
+text_written command source sink sink' text ends whole part outcome wrote =
     let Of : List ℕ → Type 0 = λ all. Wrote all sink sink' ends in
-    written command source source sink sink' [] text [] ends whole (read_none source) outcome
-    (λ part rest is longer. absurd (none_longer text part rest is longer)) refl
+    written command source source sink sink' [] text [] ends whole part outcome
+    (λ front rest is longer. absurd (none_longer text front rest is longer)) refl
     (subst Of (sym (append-nil text)) wrote)
 
 -- `encode` that read its input and wrote the output
@@ -132,7 +131,7 @@ encoding_written side source source' sink sink' input text ends whole encoding s
     let parts = parted side input text encoding in
     let Of : List ℕ → Type 0 = λ all. Wrote all sink sink' ends in
     written (Encode side) source source' sink sink' input parts.early parts.late ends whole
-    (part_of_whole source source' input whole) parts.outcome (λ part rest is longer. whole.ended) same
+    (part_of_whole source source' input whole) parts.outcome (λ part rest is longer. whole) same
     (subst Of parts.output_is wrote)
 
 -- `encode` that wrote nothing
@@ -149,7 +148,7 @@ nothing_written law side source source' sink input part =
       outcome = some.1;
       front = (some.0 ++ last_text marker, refl);
       written = grows_none sink.taken;
-      ended = λ longer. absurd (omega (arith, longer));
+      past = λ longer. absurd (omega (arith, longer));
     }
 
 -- `encode` that found no memory

@@ -46,11 +46,28 @@ pub record ReadToEnd (source source' : SourceSeen) (bytes : List ℕ) : Type 0 w
   pub short : length bytes < input_limit
   pub ended : source'.ended ≡ true
 
--- what a command that ends well reads: `encode` its input to the end, the others nothing
+-- a source gave some bytes, no more than the limit
+pub record ReadPart (source source' : SourceSeen) (bytes : List ℕ) : Type 0 where
+  pub given : Grows source.given source'.given bytes
+  pub left : Shrinks source.left source'.left bytes
+  pub short : length bytes ≤ input_limit
+
+-- a source was left as it was
+pub record ReadNothing (source source' : SourceSeen) (bytes : List ℕ) : Type 0 where
+  pub same : source' ≡ source
+  pub none : bytes ≡ []
+
+-- what a command reads that ends well: `encode` its input to the end, the others nothing
 abbrev pub ReadsWhole : TextCommand → SourceSeen → SourceSeen → List ℕ → Type 0
 ReadsWhole (Encode side) source source' bytes = ReadToEnd source source' bytes
-ReadsWhole Help source source' bytes = (source' ≡ source) × (bytes ≡ [])
-ReadsWhole Version source source' bytes = (source' ≡ source) × (bytes ≡ [])
+ReadsWhole Help source source' bytes = ReadNothing source source' bytes
+ReadsWhole Version source source' bytes = ReadNothing source source' bytes
+
+-- what a command may have read that ends in another way
+abbrev pub ReadsPart : TextCommand → SourceSeen → SourceSeen → List ℕ → Type 0
+ReadsPart (Encode side) source source' bytes = ReadPart source source' bytes
+ReadsPart Help source source' bytes = ReadNothing source source' bytes
+ReadsPart Version source source' bytes = ReadNothing source source' bytes
 
 -- a command read its whole input and wrote the whole output that belongs to it
 pub record Ran (command : TextCommand) (source source' : SourceSeen) (sink sink' : SinkSeen) : Type 0 where
@@ -61,24 +78,18 @@ pub record Ran (command : TextCommand) (source source' : SourceSeen) (sink sink'
   pub outcome : IsOutput command input early late
   pub written : Grows sink.taken sink'.taken (early ++ late)
 
--- a source gave some bytes, no more than the limit
-pub record ReadPart (source source' : SourceSeen) (bytes : List ℕ) : Type 0 where
-  pub given : Grows source.given source'.given bytes
-  pub left : Shrinks source.left source'.left bytes
-  pub short : length bytes ≤ input_limit
-
 -- A command read a part of its input and wrote a front part of the output that belongs to what it read. It wrote more
--- than what may be written early only where it met the input's end.
+-- than what may be written early only where it read its input to the end.
 pub record Broke (command : TextCommand) (source source' : SourceSeen) (sink sink' : SinkSeen) : Type 0 where
   pub input : List ℕ
   pub early : List ℕ
   pub late : List ℕ
   pub part : List ℕ
-  pub read : ReadPart source source' input
+  pub read : ReadsPart command source source' input
   pub outcome : IsOutput command input early late
   pub front : (rest : List ℕ) × (early ++ late ≡ part ++ rest)
   pub written : Grows sink.taken sink'.taken part
-  pub ended : length early < length part → source'.ended ≡ true
+  pub past : length early < length part → ReadToEnd source source' input
 
 -- a source gave as many bytes as the limit, had as many left, and didn't end
 pub record GaveLimit (limit : ℕ) (source source' : SourceSeen) : Type 0 where
