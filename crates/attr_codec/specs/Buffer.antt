@@ -1,6 +1,10 @@
 -- The buffer of a message, as the bytes in it and how many fit.
 use Rattle.std.specs.Prelude.{ℕ, ◌≡◌, ◌+◌, ◌≤◌, List, ◌++◌, length}
 
+-- the greatest length of a message (RFC 8654, section 4)
+abbrev pub max_message : ℕ
+max_message = 65535
+
 -- what a contract sees of a buffer
 pub record Buffer : Type 0 where
   pub bytes : List ℕ

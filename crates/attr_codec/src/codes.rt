@@ -12,6 +12,9 @@ ghost use Rattle.attr_codec.specs.Kind.{flags_of};
 /// The bit of the flags that says that the length has two bytes (RFC 4271, section 4.3).
 pub const EXTENDED_LENGTH: u8 = 0x10;
 
+/// The bit of the flags that says that the attribute is transitive (RFC 4271, section 4.3).
+pub const TRANSITIVE: u8 = 0x40;
+
 /// The bit of the flags that says that the attribute is optional (RFC 4271, section 4.3).
 pub const OPTIONAL: u8 = 0x80;
 
@@ -147,9 +150,9 @@ impl Kind {
         ensures { result ≡ flags_of self }
     {
         match self {
-            Kind::WellKnown => 0x40,
-            Kind::Optional => 0x80,
-            Kind::OptionalTransitive => 0xC0,
+            Kind::WellKnown => TRANSITIVE,
+            Kind::Optional => OPTIONAL,
+            Kind::OptionalTransitive => OPTIONAL + TRANSITIVE,
         }
     }
 }

@@ -8,10 +8,10 @@ use arrayvec::ArrayVec;
 use std::alloc::Global;
 use std::marker::Model;
 
-/// The greatest length of a message (RFC 8654, section 4).
+// The greatest length of a message (RFC 8654, section 4).
 const MAX_MESSAGE: usize = 65_535;
 
-/// Where the length of the whole message stands in its header (RFC 4271, section 4.1).
+// Where the length of the whole message stands in its header (RFC 4271, section 4.1).
 const LEN_START: usize = 16;
 
 const LEN_END: usize = 18;
@@ -26,21 +26,22 @@ pub struct Message {
 
 impl Model for Message {
     ghost use Rattle.std.specs.Prelude.{◌≤◌, length};
-    ghost use Rattle.attr_codec.specs.Buffer.{Buffer};
+    ghost use Rattle.attr_codec.specs.Buffer.{Buffer, max_message};
 
     ghost Value = { Buffer };
 
     ghost view = { λ m. record { bytes = m.bytes.value.items; room = m.room } };
 
-    ghost invariant = { λ m. (length m.bytes.value.items ≤ m.room) × (m.room ≤ 65535) };
+    ghost invariant = { λ m. (length m.bytes.value.items ≤ m.room) × (m.room ≤ max_message) };
 }
 
 impl Message {
-    ghost use Rattle.attr_codec.specs.Buffer.{Buffer, HasRoom, Appended};
+    ghost use Rattle.update_grammar.specs.Codes.{marker_len, length_end};
+    ghost use Rattle.attr_codec.specs.Buffer.{HasRoom, Appended, max_message};
 
     /// An empty buffer with room for so many bytes.
     pub fn new(alloc: Global, room: usize) -> Result<Message, NoMemory>
-        requires { room ≤ 65535 }
+        requires { room ≤ max_message }
         ensures { IfOk result (λ message. message ≡ record { bytes = []; room = room }) }
     {
         Ok(Message {
@@ -53,7 +54,7 @@ impl Message {
     pub fn bytes(&self) -> &[u8]
         ensures value { result.now ≡ self.now.bytes }
         ensures fits { length result.now ≤ self.now.room }
-        ensures small { self.now.room ≤ 65535 }
+        ensures small { self.now.room ≤ max_message }
     {
         self.bytes.as_slice()
     }
@@ -61,7 +62,7 @@ impl Message {
     /// How many more bytes fit.
     pub fn spare(&self) -> usize
         ensures room { result + length self.now.bytes ≡ self.now.room }
-        ensures small { self.now.room ≤ 65535 }
+        ensures small { self.now.room ≤ max_message }
     {
         self.room - self.bytes.len()
     }
@@ -108,7 +109,8 @@ impl Message {
     /// Writes bytes over those that stand from `start` on.
     pub fn overwrite(&mut self, start: usize, piece: &[u8])
         requires { start + length piece.now ≤ length self.old.bytes }
-        ensures bytes { self.new.bytes ≡ take start self.old.bytes ++ (piece.now ++ drop (start + length piece.now) self.old.bytes) }
+        ensures bytes { self.new.bytes ≡ take start self.old.bytes
+            ++ (piece.now ++ drop (start + length piece.now) self.old.bytes) }
         ensures room { self.new.room ≡ self.old.room }
         ensures len { length self.new.bytes ≡ length self.old.bytes }
     {
@@ -120,7 +122,8 @@ impl Message {
     pub fn move_last(&mut self, start: usize, count: usize)
         requires { start + count ≤ length self.old.bytes }
         ensures bytes { (before after last : List ℕ) → length before ≡ start → length last ≡ count →
-            self.old.bytes ≡ before ++ (after ++ last) → self.new.bytes ≡ before ++ (last ++ after) }
+            self.old.bytes ≡ before ++ (after ++ last)
+            → self.new.bytes ≡ before ++ (last ++ after) }
         ensures room { self.new.room ≡ self.old.room }
         ensures len { length self.new.bytes ≡ length self.old.bytes }
     {
@@ -130,9 +133,10 @@ impl Message {
 
     /// Writes how many bytes there are into the header (RFC 4271, section 4.1).
     pub fn seal(&mut self)
-        requires { 18 ≤ length self.old.bytes }
+        requires { length_end ≤ length self.old.bytes }
         ensures { self.new ≡ record self.old {
-          bytes = take 16 self.old.bytes ++ (to_be_bytes w16 (length self.old.bytes) ++ drop 18 self.old.bytes);
+          bytes = take marker_len self.old.bytes
+              ++ (to_be_bytes w16 (length self.old.bytes) ++ drop length_end self.old.bytes);
         } }
     {
         let len = self.bytes.len() as u16;

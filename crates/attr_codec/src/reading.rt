@@ -30,10 +30,11 @@ pub type AttrList = Items<Attr>;
 /// 6.3; RFC 4760; RFC 6793: four bytes an AS number). An attribute of an unknown code says nothing. `caps` are those
 /// of the session that the bytes came by. The work grows with the number of bytes.
 pub fn read_attrs(alloc: Global, bytes: &[u8], caps: &Caps) -> Result<AttrList, AttrFault>
-    // What is read is spelled.
+    // What is read is spelled, and what is spelled is read, unless memory runs out.
     ensures found { IfOk result (λ said. SpellsAttributes caps.now bytes.now said) }
-    // What is spelled is read, unless memory runs out.
-    ensures only { (said : List Attr) → SpellsAttributes caps.now bytes.now said → Gives (λ list. list) attr_blame result (Ok said) }
+    ensures only { (said : List Attr) → SpellsAttributes caps.now bytes.now said
+        → Gives (λ list. list) attr_blame result (Ok said) }
+
     // Which fault it is, and that it stands in the bytes.
     ensures exact { Gives (λ list. list) attr_blame result (attrs_in caps.now bytes.now) }
     ensures within { IfErr result (λ fault. place_of fault ≤ length bytes.now) }

@@ -1,6 +1,8 @@
 ghost use Rattle.std.specs.Prelude.{◌≡◌, ◌<◌, ◌≤◌, All, IfOk, length};
 ghost use Rattle.route_values.specs.declared.addr.Family.TheVariants.{Ipv4};
 ghost use Rattle.route_values.specs.Addr.{family_of};
+ghost use Rattle.update_grammar.specs.Codes.{short_max};
+ghost use Rattle.attr_codec.specs.Buffer.{max_message};
 ghost use Rattle.attr_codec.specs.Sizes.{IsShort};
 
 mod reading;
@@ -14,7 +16,7 @@ use std::test::Fail;
 // One sequence of so many AS numbers 65001 to the next hop 192.0.2.1.
 fn of_path(alloc: Global, count: usize) -> Result<WireAttrs, NoMemory>
     requires some { 0 < count }
-    requires short { count ≤ 255 }
+    requires short { count ≤ short_max }
     ensures hop { IfOk result (λ w. family_of w.hop ≡ Ipv4) }
     ensures short { IfOk result (λ w. All IsShort w.path) }
 {
@@ -30,7 +32,7 @@ fn of_path(alloc: Global, count: usize) -> Result<WireAttrs, NoMemory>
 fn written(alloc: Global, attrs: &WireAttrs, room: usize) -> Result<Option<Message>, NoMemory>
     requires hop { family_of attrs.now.hop ≡ Ipv4 }
     requires short { All IsShort attrs.now.path }
-    requires room { room ≤ 65535 }
+    requires room { room ≤ max_message }
 {
     let mut out = Message::new(alloc, room)?;
     let fits = put_attrs(&mut out, attrs, Family::Ipv4);
@@ -102,13 +104,20 @@ fn bytes_of_a_buffer_are_written_over_and_moved(rt: HostRuntime) -> Result<(), F
     Ok(())
 }
 
+// A value that may go to another thread.
+fn sent<T: Send>(value: T) -> T
+    ensures { result ≡ value }
+{
+    value
+}
+
 #[test]
 fn a_buffer_is_moved_as_a_pointer(rt: HostRuntime) -> Result<(), Fail> {
     assert!(rt; std::mem::size_of::<Message>() <= 24);
     let full = vec![in rt.alloc(); 0xFF; 65_535]?;
     let mut out = Message::new(rt.alloc(), full.len())?;
     out.append(&full);
-    let moved = out;
+    let moved = sent(out);
     assert_eq!(rt; moved.bytes().len(), 65_535);
     assert_eq!(rt; moved.spare(), 0);
     Ok(())

@@ -2,12 +2,14 @@
 ghost use Rattle.std.specs.Prelude.{◌≡◌, ◌+◌, ◌≤◌, ◌↔◌, [], All, length, IsTrue};
 ghost use Rattle.std.specs.Bool.{OnTrue, OnFalse};
 ghost use Rattle.route_values.specs.Addr.{family_of};
+ghost use Rattle.update_grammar.specs.Codes.{code_atomic, code_aggregator};
 ghost use Rattle.update_grammar.specs.Written.{attributes_text, unreach_text, raw_when, raw_if};
 ghost use Rattle.update_grammar.specs.Attributes.{transitive, optional_transitive};
 ghost use Rattle.update_grammar.specs.Values.{origin_number, aggregator_text};
-ghost use Rattle.attr_codec.specs.Buffer.{HasRoom, Appended};
-ghost use Rattle.attr_codec.specs.Groups.{raws_text, first_text, second_text, third_text, last_text};
-ghost use Rattle.attr_codec.specs.Sizes.{IsShort};
+ghost use Rattle.attr_codec.specs.Buffer.{HasRoom, Appended, max_message};
+ghost use Rattle.attr_codec.specs.Groups.{first_text, second_text, third_text, last_text};
+ghost use Rattle.attr_codec.specs.Groups.{atomic_attr, aggregator_attr};
+ghost use Rattle.attr_codec.specs.Sizes.{IsShort, unreach_size};
 
 mod head;
 mod hop;
@@ -50,7 +52,7 @@ pub fn put_attrs(out: &mut Message, attrs: &WireAttrs, family: Family) -> bool
 pub fn append_attrs(out: &mut Message, attrs: &WireAttrs, family: Family)
     requires hop { family_of attrs.now.hop ≡ family }
     requires short { All IsShort attrs.now.path }
-    requires room { out.old.room ≤ 65535 }
+    requires room { out.old.room ≤ max_message }
     requires fits { HasRoom out.old (length (attributes_text family attrs.now [])) }
     ensures { Appended out.old out.new (attributes_text family attrs.now []) }
 {
@@ -62,7 +64,7 @@ pub fn append_attrs(out: &mut Message, attrs: &WireAttrs, family: Family)
 
 /// Puts an MP_UNREACH_NLRI of IPv6 without prefixes at the end (RFC 4760, section 4).
 pub fn append_unreach(out: &mut Message)
-    requires { HasRoom out.old 6 }
+    requires { HasRoom out.old unreach_size }
     ensures { Appended out.old out.new (unreach_text []) }
 {
     put_plain(out, Kind::Optional, MP_UNREACH_NLRI, &IPV6_UNICAST);
@@ -71,7 +73,7 @@ pub fn append_unreach(out: &mut Message)
 // ORIGIN, AS_PATH and NEXT_HOP.
 fn put_first(out: &mut Message, attrs: &WireAttrs)
     requires short { All IsShort attrs.now.path }
-    requires room { out.old.room ≤ 65535 }
+    requires room { out.old.room ≤ max_message }
     requires fits { HasRoom out.old (length (first_text (family_of attrs.now.hop) attrs.now)) }
     ensures { Appended out.old out.new (first_text (family_of attrs.now.hop) attrs.now) }
 {
@@ -93,7 +95,7 @@ fn put_second(out: &mut Message, attrs: &WireAttrs)
 
 // COMMUNITIES, ORIGINATOR_ID and CLUSTER_LIST.
 fn put_third(out: &mut Message, attrs: &WireAttrs)
-    requires room { out.old.room ≤ 65535 }
+    requires room { out.old.room ≤ max_message }
     requires fits { HasRoom out.old (length (third_text attrs.now)) }
     ensures { Appended out.old out.new (third_text attrs.now) }
 {
@@ -105,7 +107,7 @@ fn put_third(out: &mut Message, attrs: &WireAttrs)
 
 // MP_REACH_NLRI, EXTENDED COMMUNITIES and LARGE_COMMUNITY.
 fn put_last(out: &mut Message, attrs: &WireAttrs)
-    requires room { out.old.room ≤ 65535 }
+    requires room { out.old.room ≤ max_message }
     requires fits { HasRoom out.old (length (last_text (family_of attrs.now.hop) attrs.now)) }
     ensures { Appended out.old out.new (last_text (family_of attrs.now.hop) attrs.now) }
 {
@@ -115,8 +117,8 @@ fn put_last(out: &mut Message, attrs: &WireAttrs)
 }
 
 fn put_atomic(out: &mut Message, atomic: bool)
-    requires { HasRoom out.old (length (raws_text (raw_when atomic transitive 6))) }
-    ensures { Appended out.old out.new (raws_text (raw_when atomic transitive 6)) }
+    requires { HasRoom out.old (length (atomic_attr atomic)) }
+    ensures { Appended out.old out.new (atomic_attr atomic) }
 {
     if atomic {
         put_plain(out, Kind::WellKnown, ATOMIC_AGGREGATE, &[]);
@@ -124,8 +126,8 @@ fn put_atomic(out: &mut Message, atomic: bool)
 }
 
 fn put_aggregator(out: &mut Message, aggregator: Option<Aggregator>)
-    requires { HasRoom out.old (length (raws_text (raw_if aggregator_text optional_transitive 7 aggregator))) }
-    ensures { Appended out.old out.new (raws_text (raw_if aggregator_text optional_transitive 7 aggregator)) }
+    requires { HasRoom out.old (length (aggregator_attr aggregator)) }
+    ensures { Appended out.old out.new (aggregator_attr aggregator) }
 {
     if let Some(aggregator) = aggregator {
         put_head(out, Kind::OptionalTransitive, AGGREGATOR, AGGREGATOR_LEN);

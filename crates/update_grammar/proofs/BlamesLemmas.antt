@@ -1,5 +1,5 @@
 -- What an answer that blames a fault, or finds no memory, tells of a definition.
-use Rattle.std.proofs.Common.{◌≡◌, Option, Some, None, Result, Ok, Err}
+use Rattle.std.proofs.Common.{◌≡◌, Option, Some, None, Result, Err}
 use Rattle.answers.specs.Gives.{Blames}
 
 -- where another definition has each fault of the first, the answer blames it for that one too

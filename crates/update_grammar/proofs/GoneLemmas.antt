@@ -1,5 +1,6 @@
 -- Withdrawals and markers that are written are spelled again.
-use Rattle.std.proofs.Common.{ℕ, ◌≡◌, ◌^◌, ◌<◌, Bool, true, false, List, [], ◌∷◌, ◌++◌, length, arith, length-append, append-nil, sym, refl, subst, Option, Some, None}
+use Rattle.std.proofs.Common.{ℕ, ◌≡◌, ◌^◌, ◌<◌, Bool, true, false, List, [], ◌∷◌, ◌++◌, length, arith, length-append}
+use Rattle.std.proofs.Common.{append-nil, sym, refl, subst, Option, Some, None}
 use Rattle.std.specs.List.{flat_map, AllByRecursion}
 use Rattle.route_values.specs.declared.addr.Family.{Family}
 use Rattle.route_values.specs.declared.addr.Family.TheVariants.{Ipv4, Ipv6}
@@ -21,7 +22,8 @@ use Rattle.update_grammar.proofs.PiecesLemmas.{all_apply}
 use Rattle.update_grammar.proofs.PrefixLemmas.{keys_spelled}
 use Rattle.update_grammar.proofs.RawLemmas.{values_short}
 use Rattle.update_grammar.proofs.GroupLemmas.{Group}
-use Rattle.update_grammar.proofs.FamilyLemmas.{none_or_agreed, none_unless_agreed, unreach_group, unreach_group_elsewhere}
+use Rattle.update_grammar.proofs.FamilyLemmas.{none_or_agreed, none_unless_agreed, unreach_group}
+use Rattle.update_grammar.proofs.FamilyLemmas.{unreach_group_elsewhere}
 
 -- withdrawals of the body's own field alone
 withdrawn_alone : (gone : List Effect) → gone ≡ gone ++ gone_all [] ++ [] ++ []
@@ -35,7 +37,12 @@ unreached_alone gone = simp append-nil
 gone_ipv4_spelled : GoneIsSpelled Ipv4
 gone_ipv4_spelled caps keys carried short =
     let withdrawn : List ℕ = keys_text caps.ipv4_path keys in
-    let fits : length withdrawn < 2 ^ 16 = omega (arith, short, length-append withdrawn (0 ∷ 0 ∷ []), length-append (withdrawn ++ 0 ∷ 0 ∷ []) []) in
+    let fits : length withdrawn < 2 ^ 16 = omega (
+      arith,
+      short,
+      length-append withdrawn (0 ∷ 0 ∷ []),
+      length-append (withdrawn ++ 0 ∷ 0 ∷ []) [],
+    ) in
     record {
       withdrawn = withdrawn;
       attributes = [];
@@ -55,7 +62,8 @@ gone_ipv4_spelled caps keys carried short =
     }
 
 -- a group alone spells what is said in it
-group_spelled : (caps : Caps) (code : ℕ) (raws : List Raw) (said : List Attr) → Group caps code raws said → length (flat_map raw_text raws) < 2 ^ 16 → SpellsAttributes caps (flat_map raw_text raws) said
+group_spelled : (caps : Caps) (code : ℕ) (raws : List Raw) (said : List Attr) → Group caps code raws said
+    → length (flat_map raw_text raws) < 2 ^ 16 → SpellsAttributes caps (flat_map raw_text raws) said
 group_spelled caps code raws said group short = record {
   raws = raws;
   text = refl;
@@ -65,8 +73,10 @@ group_spelled caps code raws said group short = record {
 }
 
 -- a withdrawal of IPv6 prefixes spells what its MP_UNREACH_NLRI does
-gone_ipv6_with : (caps : Caps) (keys : List Key) (said : Option (List Key)) → length (written caps (head.Gone Ipv6) keys) < 2 ^ 16
-    → Group caps 15 (raw optional 15 (family_text Ipv6 ++ keys_text caps.ipv6_path keys) ∷ []) (says.Unreach said ∷ []) → Spells caps (body_of (written caps (head.Gone Ipv6) keys)) (gone_all (unreached (Some said)))
+gone_ipv6_with : (caps : Caps) (keys : List Key) (said : Option (List Key))
+    → length (written caps (head.Gone Ipv6) keys) < 2 ^ 16
+    → Group caps 15 (raw optional 15 (family_text Ipv6 ++ keys_text caps.ipv6_path keys) ∷ []) (says.Unreach said ∷ [])
+    → Spells caps (body_of (written caps (head.Gone Ipv6) keys)) (gone_all (unreached (Some said)))
 gone_ipv6_with caps keys said short group =
     let raws : List Raw = raw optional 15 (family_text Ipv6 ++ keys_text caps.ipv6_path keys) ∷ [] in
     let attributes : List ℕ = unreach_text (keys_text caps.ipv6_path keys) in
@@ -80,7 +90,9 @@ gone_ipv6_with caps keys said short group =
       gone = [];
       gone_spelled = refl;
       said = says.Unreach said ∷ [];
-      said_spelled = subst (λ bytes. SpellsAttributes caps bytes (says.Unreach said ∷ [])) text (group_spelled caps 15 raws (says.Unreach said ∷ []) group (subst (λ bytes. length bytes < 2 ^ 16) (sym text) fits));
+      said_spelled = subst (λ bytes. SpellsAttributes caps bytes (says.Unreach said ∷ [])) text
+          (group_spelled caps 15 raws (says.Unreach said ∷ []) group
+          (subst (λ bytes. length bytes < 2 ^ 16) (sym text) fits));
       here = [];
       here_spelled = refl;
       reached = [];
@@ -91,9 +103,11 @@ gone_ipv6_with caps keys said short group =
     }
 
 -- a withdrawal of IPv6 prefixes is spelled as one withdrawal a key, by whether the session has the family
-gone_ipv6_by : (caps : Caps) (keys : List Key) (on : Bool) → has_family caps Ipv6 ≡ on → AllByRecursion (IsCarried caps Ipv6) keys → length (written caps (head.Gone Ipv6) keys) < 2 ^ 16
+gone_ipv6_by : (caps : Caps) (keys : List Key) (on : Bool) → has_family caps Ipv6 ≡ on
+    → AllByRecursion (IsCarried caps Ipv6) keys → length (written caps (head.Gone Ipv6) keys) < 2 ^ 16
     → Spells caps (body_of (written caps (head.Gone Ipv6) keys)) (gone_all keys)
-gone_ipv6_by caps keys true on carried short = gone_ipv6_with caps keys (Some keys) short (unreach_group caps keys on carried)
+gone_ipv6_by caps keys true on carried short = gone_ipv6_with caps keys (Some keys) short
+    (unreach_group caps keys on carried)
 gone_ipv6_by caps keys false off carried short =
     let none : keys ≡ [] = none_unless_agreed caps Ipv6 keys (none_or_agreed caps Ipv6 keys carried) off in
     subst

@@ -59,7 +59,8 @@ pub group_none : (caps : Caps) (code : ℕ) → Group caps code [] []
 group_none caps code = record { fits = tt; coded = tt; apart = tt; meant = refl; told = tt }
 
 -- one attribute
-pub group_one : (caps : Caps) (flags code : ℕ) (value : List ℕ) (attr : Attr) → IsPlain flags → code < 256 → Means caps (raw flags code value) attr → code_of attr ≡ code
+pub group_one : (caps : Caps) (flags code : ℕ) (value : List ℕ) (attr : Attr) → IsPlain flags → code < 256
+    → Means caps (raw flags code value) attr → code_of attr ≡ code
     → Group caps code (raw flags code value ∷ []) (attr ∷ [])
 group_one caps flags code value attr plain small means told = record {
   fits = (raw_fits flags code value plain small, tt);
@@ -70,20 +71,30 @@ group_one caps flags code value attr plain small means told = record {
 }
 
 -- one attribute or none, as a matter is there or not
-pub group_if : {V : Type 0} (caps : Caps) (text : V → List ℕ) (flags code : ℕ) (say : V → Attr) (Fit : V → Type 0) → IsPlain flags → code < 256 → ((v : V) → Is (raw flags code (text v)) flags code (text v) → Fit v → Means caps (raw flags code (text v)) (say v))
-    → ((v : V) → code_of (say v) ≡ code) → (matter : Option V) → IfSome matter Fit → Group caps code (raw_if text flags code matter) (said_if say matter)
+pub group_if : {V : Type 0} (caps : Caps) (text : V → List ℕ) (flags code : ℕ) (say : V → Attr) (Fit : V → Type 0)
+    → IsPlain flags → code < 256 → ((v : V) → Is (raw flags code (text v)) flags code (text v) → Fit v
+    → Means caps (raw flags code (text v)) (say v))
+    → ((v : V) → code_of (say v) ≡ code) → (matter : Option V) → IfSome matter Fit
+    → Group caps code (raw_if text flags code matter) (said_if say matter)
 group_if caps text flags code say Fit plain small means told None fit = group_none caps code
-group_if caps text flags code say Fit plain small means told (Some v) fit = group_one caps flags code (text v) (say v) plain small (means v (written_is flags code (text v) plain) fit) (told v)
+group_if caps text flags code say Fit plain small means told (Some v) fit =
+    group_one caps flags code (text v) (say v) plain small (means v (written_is flags code (text v) plain) fit) (told v)
 
 -- one attribute or none, as a list has items or not
-pub group_some : {V : Type 0} (caps : Caps) (text : List V → List ℕ) (flags code : ℕ) (say : List V → Attr) (Fit : List V → Type 0) → IsPlain flags → code < 256
-    → ((vs : List V) → Is (raw flags code (text vs)) flags code (text vs) → Fit vs → Means caps (raw flags code (text vs)) (say vs)) → ((vs : List V) → code_of (say vs) ≡ code) → (items : List V) → Fit items
+pub group_some : {V : Type 0} (caps : Caps) (text : List V → List ℕ) (flags code : ℕ) (say : List V → Attr)
+    (Fit : List V → Type 0) → IsPlain flags → code < 256
+    → ((vs : List V) → Is (raw flags code (text vs)) flags code (text vs) → Fit vs
+    → Means caps (raw flags code (text vs)) (say vs)) → ((vs : List V) → code_of (say vs) ≡ code) → (items : List V)
+    → Fit items
     → Group caps code (raw_some text flags code items) (said_some say items)
 group_some caps text flags code say Fit plain small means told [] fit = group_none caps code
-group_some caps text flags code say Fit plain small means told (v ∷ vs) fit = group_one caps flags code (text (v ∷ vs)) (say (v ∷ vs)) plain small (means (v ∷ vs) (written_is flags code (text (v ∷ vs)) plain) fit) (told (v ∷ vs))
+group_some caps text flags code say Fit plain small means told (v ∷ vs) fit =
+    group_one caps flags code (text (v ∷ vs)) (say (v ∷ vs)) plain small
+    (means (v ∷ vs) (written_is flags code (text (v ∷ vs)) plain) fit) (told (v ∷ vs))
 
 -- one attribute or none, as a mark stands or not
-pub group_when : (caps : Caps) (flags code : ℕ) (attr : Attr) → IsPlain flags → code < 256 → Means caps (raw flags code []) attr → code_of attr ≡ code → (stands : Bool)
+pub group_when : (caps : Caps) (flags code : ℕ) (attr : Attr) → IsPlain flags → code < 256
+    → Means caps (raw flags code []) attr → code_of attr ≡ code → (stands : Bool)
     → Group caps code (raw_when stands flags code) (said_when attr stands)
 group_when caps flags code attr plain small means told true = group_one caps flags code [] attr plain small means told
 group_when caps flags code attr plain small means told false = group_none caps code

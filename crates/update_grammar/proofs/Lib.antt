@@ -1,3 +1,4 @@
+pub mod PairLemmas
 pub mod PiecesLemmas
 pub mod StepsLemmas
 pub mod ByteLemmas
@@ -6,6 +7,7 @@ pub mod ReadPrefixLemmas
 pub mod ShrinkLemmas
 pub mod ReadValueLemmas
 pub mod ReadPathLemmas
+pub mod ReadReachedLemmas
 pub mod ReadFamilyLemmas
 pub mod ReadRawLemmas
 pub mod ReadMeaningLemmas

@@ -1,42 +1,41 @@
 -- MP_REACH_NLRI and MP_UNREACH_NLRI: what is read is spelled so, and what is spelled so is read.
-use Rattle.std.proofs.Common.{ℕ, suc, ◌≡◌, ◌≢◌, ◌⊎◌, ◌+◌, ◌*◌, ◌^◌, ◌<◌, ◌≤◌, Bool, true, false, ◌&&◌, ◌||◌, eqb, ltb, List, [], ◌∷◌, ◌++◌, length, take, drop, get_or, Option, Some, None, Result, Ok, Err, refl, sym, ap, subst, ◌∙◌, arith, append_assoc, length-append, length-drop, length-take, inl, inr, if◌then◌else◌}
-use Rattle.std.specs.Option.{ok_or}
-use Rattle.std.specs.Int.{w32, w128, to_be_bytes, from_be_bytes}
-use Rattle.std.proofs.lemmas.Bool.{eqb-true, eq-eqb, ltb-false, le-ltb, and_parts, or_cases, or_left, or_right}
-use Rattle.std.proofs.lemmas.List.{take_at, drop_at, take-append-drop, drop_more}
+use Rattle.std.proofs.Common.{ℕ, ◌≡◌, ◌≢◌, ◌⊎◌, ◌+◌, ◌*◌, ◌<◌, Bool, true, false, ◌&&◌, eqb, ltb}
+use Rattle.std.proofs.Common.{List, [], ◌∷◌, ◌++◌, length, drop, Option, Some, None, Result, Ok, Err}
+use Rattle.std.proofs.Common.{refl, sym, ap, subst, ◌∙◌, arith, length-append}
+use Rattle.std.proofs.Common.{inl, inr, if◌then◌else◌}
+use Rattle.std.proofs.lemmas.Bool.{eqb-true, le-ltb, and_parts}
+use Rattle.std.proofs.lemmas.List.{drop_at}
 use Rattle.std.proofs.lemmas.Option.{cond_some}
-use Rattle.route_values.specs.declared.addr.Addr.{Addr}
-use Rattle.route_values.specs.declared.addr.Addr.TheVariants.{V4, V6}
 use Rattle.route_values.specs.declared.addr.Family.{Family}
 use Rattle.route_values.specs.declared.addr.Family.TheVariants.{Ipv4, Ipv6}
 use Rattle.route_values.specs.Caps.{Caps}
 use Rattle.route_values.specs.declared.key.Key.{Key}
-use Rattle.route_values.specs.Visible.{has_family, has_path}
+use Rattle.route_values.specs.Visible.{has_family}
 use Rattle.update_grammar.specs.declared.effect.Reached.{Reached}
-use Rattle.update_grammar.specs.Pieces.{SpellsEach}
-use Rattle.update_grammar.specs.Prefixes.{SpellsKey}
-use Rattle.update_grammar.specs.Families.{family_text, IsElsewhere, SpellsHop, SpellsReach, SpellsUnreach}
-use Rattle.update_grammar.specs.Steps.{◌>>=◌, blamed}
-use Rattle.update_grammar.specs.ReadPrefixes.{keys_in}
-use Rattle.update_grammar.specs.ReadValues.{Wrong, BadLength, BadValue}
-use Rattle.update_grammar.specs.ReadFamilies.{family_of_numbers, agreed, agreed_in, keys_value, hop_in, reached_in, where_agreed, reach_in, unreach_in}
+use Rattle.update_grammar.specs.Families.{family_text, IsElsewhere, SpellsReach, SpellsUnreach}
+use Rattle.update_grammar.specs.ReadValues.{Wrong, BadLength}
+use Rattle.update_grammar.specs.ReadFamilies.{family_of_numbers, agreed, agreed_in, keys_value, reached_in}
+use Rattle.update_grammar.specs.ReadFamilies.{where_agreed, reach_in, unreach_in}
 use Rattle.update_grammar.specs.Laws.{AreBytes}
-use Rattle.update_grammar.proofs.ByteLemmas.{bytes_take, bytes_drop, bytes_rest, wide32, number_read, number_written}
-use Rattle.update_grammar.proofs.SixteenLemmas.{wide128}
-use Rattle.update_grammar.proofs.ReadPrefixLemmas.{and_then_some, ok_or_some, keys_found, keys_only}
+use Rattle.update_grammar.proofs.ByteLemmas.{bytes_drop}
+use Rattle.update_grammar.proofs.ReadReachedLemmas.{IsReached, keys_value_found, keys_value_only, reached_found}
+use Rattle.update_grammar.proofs.ReadReachedLemmas.{reached_only}
+use Rattle.update_grammar.proofs.ReadPrefixLemmas.{and_then_some}
 use Rattle.update_grammar.proofs.ShrinkLemmas.{unless_fault}
 use Rattle.update_grammar.proofs.StepsLemmas.{bind_ok, ok_is}
 
 -- ---- the family
 
 -- the family that is picked by two tests
-picked : (four six : Bool) (family : Family) → (if four then Some Ipv4 else if six then Some Ipv6 else None) ≡ Some family → ((four ≡ true) × (family ≡ Ipv4)) ⊎ ((six ≡ true) × (family ≡ Ipv6))
+picked : (four six : Bool) (family : Family) → (if four then Some Ipv4 else if six then Some Ipv6 else None)
+    ≡ Some family → ((four ≡ true) × (family ≡ Ipv4)) ⊎ ((six ≡ true) × (family ≡ Ipv6))
 picked true six family is = inl (refl, cc)
 picked false true family is = inr (refl, cc)
 picked false false family is = absurd cc
 
 -- three bytes by their numbers
-three_bytes : (first second third afi : ℕ) (family : Family) → first * 256 + second ≡ afi → afi < 256 → third ≡ 1 → 0 ∷ afi ∷ 1 ∷ [] ≡ family_text family → first ∷ second ∷ third ∷ [] ≡ family_text family
+three_bytes : (first second third afi : ℕ) (family : Family) → first * 256 + second ≡ afi → afi < 256 → third ≡ 1
+    → 0 ∷ afi ∷ 1 ∷ [] ≡ family_text family → first ∷ second ∷ third ∷ [] ≡ family_text family
 three_bytes first second third afi family is small unicast text =
     let upper : first ≡ 0 = omega arith in
     let lower : second ≡ afi = omega arith in
@@ -48,27 +47,33 @@ family_length Ipv4 = refl
 family_length Ipv6 = refl
 
 -- three bytes that are read as a family are its text
-family_found : (first second third : ℕ) (family : Family) → family_of_numbers (first * 256 + second) third ≡ Some family → first ∷ second ∷ third ∷ [] ≡ family_text family
+family_found : (first second third : ℕ) (family : Family) → family_of_numbers (first * 256 + second) third ≡ Some family
+    → first ∷ second ∷ third ∷ [] ≡ family_text family
 family_found first second third family is =
     let afi : ℕ = first * 256 + second in
     elim (picked (eqb afi 1 && eqb third 1) (eqb afi 2 && eqb third 1) family is) [
       | inl four ↦
           let both = and_parts (eqb afi 1) (eqb third 1) four.0 in
-          three_bytes first second third 1 family (eqb-true afi 1 both.0) (omega arith) (eqb-true third 1 both.1) (ap family_text (sym four.1))
+          three_bytes first second third 1 family (eqb-true afi 1 both.0) (omega arith) (eqb-true third 1 both.1)
+          (ap family_text (sym four.1))
       | inr six ↦
           let both = and_parts (eqb afi 2) (eqb third 1) six.0 in
-          three_bytes first second third 2 family (eqb-true afi 2 both.0) (omega arith) (eqb-true third 1 both.1) (ap family_text (sym six.1))
+          three_bytes first second third 2 family (eqb-true afi 2 both.0) (omega arith) (eqb-true third 1 both.1)
+          (ap family_text (sym six.1))
     ]
 
 -- the family that a value begins with is one of the session
-agreed_found : (caps : Caps) (first second third : ℕ) (rest : List ℕ) (family : Family) → agreed_in caps (first ∷ second ∷ third ∷ rest) ≡ Some family → (first ∷ second ∷ third ∷ [] ≡ family_text family) × (has_family caps family ≡ true)
+agreed_found : (caps : Caps) (first second third : ℕ) (rest : List ℕ) (family : Family)
+    → agreed_in caps (first ∷ second ∷ third ∷ rest) ≡ Some family
+    → (first ∷ second ∷ third ∷ [] ≡ family_text family) × (has_family caps family ≡ true)
 agreed_found caps first second third rest family is =
     let steps = and_then_some (agreed caps) (family_of_numbers (first * 256 + second) third) family is in
     let has = cond_some (has_family caps steps.0) steps.0 family steps.2 in
     (family_found first second third steps.0 steps.1 ∙ ap family_text has.1, ap (has_family caps) (sym has.1) ∙ has.0)
 
 -- a family of the session is found
-agreed_only : (caps : Caps) (family : Family) (rest : List ℕ) → has_family caps family ≡ true → agreed_in caps (family_text family ++ rest) ≡ Some family
+agreed_only : (caps : Caps) (family : Family) (rest : List ℕ) → has_family caps family ≡ true
+    → agreed_in caps (family_text family ++ rest) ≡ Some family
 agreed_only caps Ipv4 rest has = rw has refl
 agreed_only caps Ipv6 rest has = rw has refl
 
@@ -77,33 +82,47 @@ agreed_only caps Ipv6 rest has = rw has refl
 -- what a reading of a value says where its family is the session's, and where it isn't
 abbrev Says : {A : Type 0} → Caps → List ℕ → (Family → Result A Wrong) → Option A → Type 0
 Says caps value read None = IsElsewhere caps value
-Says caps value read (Some x) = (family : Family) × (has_family caps family ≡ true) × (value ≡ family_text family ++ drop 3 value) × (read family ≡ Ok x)
+Says caps value read (Some x) = (family : Family) × (has_family caps family ≡ true)
+    × (value ≡ family_text family ++ drop 3 value) × (read family ≡ Ok x)
 
 -- a reading of a value behind its family
 abbrev read_behind : {A : Type 0} → Caps → List ℕ → (Family → Result A Wrong) → Result (Option A) Wrong
 read_behind caps value read = if ltb (length value) 3 then Err BadLength else where_agreed read (agreed_in caps value)
 
 -- three bytes that are no family of the session
-not_agreed : (caps : Caps) (first second third : ℕ) (rest : List ℕ) → agreed_in caps (first ∷ second ∷ third ∷ rest) ≡ None → (family : Family) → has_family caps family ≡ true → first ∷ second ∷ third ∷ [] ≢ family_text family
+not_agreed : (caps : Caps) (first second third : ℕ) (rest : List ℕ)
+    → agreed_in caps (first ∷ second ∷ third ∷ rest) ≡ None → (family : Family) → has_family caps family ≡ true
+    → first ∷ second ∷ third ∷ [] ≢ family_text family
 not_agreed caps first second third rest none family has same =
-    let agreed_is : agreed_in caps (first ∷ second ∷ third ∷ rest) ≡ Some family = ap (λ (front : List ℕ). agreed_in caps (front ++ rest)) same ∙ agreed_only caps family rest has in
+    let agreed_is : agreed_in caps (first ∷ second ∷ third ∷ rest) ≡ Some family =
+    ap (λ (front : List ℕ). agreed_in caps (front ++ rest)) same ∙ agreed_only caps family rest has in
     absurd cc
 
 -- what is read where the family is found, or isn't
-where_found : {A : Type 0} (caps : Caps) (first second third : ℕ) (rest : List ℕ) (read : Family → Result A Wrong) (found : Option Family) (said : Option A) → agreed_in caps (first ∷ second ∷ third ∷ rest) ≡ found → where_agreed read found ≡ Ok said
+where_found : {A : Type 0} (caps : Caps) (first second third : ℕ) (rest : List ℕ) (read : Family → Result A Wrong)
+    (found : Option Family) (said : Option A) → agreed_in caps (first ∷ second ∷ third ∷ rest) ≡ found
+    → where_agreed read found ≡ Ok said
     → Says caps (first ∷ second ∷ third ∷ rest) read said
 where_found caps first second third rest read None said none is =
     let value : List ℕ = first ∷ second ∷ third ∷ rest in
-    let elsewhere : IsElsewhere caps value = record { family = first ∷ second ∷ third ∷ []; rest = rest; text = refl; three = refl; other = not_agreed caps first second third rest none } in
+    let elsewhere : IsElsewhere caps value = record {
+      family = first ∷ second ∷ third ∷ [];
+      rest = rest;
+      text = refl;
+      three = refl;
+      other = not_agreed caps first second third rest none;
+    } in
     subst (Says caps value read) (ok_is BadLength _ _ is) elsewhere
 where_found caps first second third rest read (Some family) said agreed_is is =
     let value : List ℕ = first ∷ second ∷ third ∷ rest in
     let steps = bind_ok (read family) (λ x. Ok (Some x)) said is in
     let has = agreed_found caps first second third rest family agreed_is in
-    subst (Says caps value read) (ok_is BadLength _ _ steps.2) (family, has.1, ap (λ (front : List ℕ). front ++ rest) has.0, steps.1)
+    subst (Says caps value read) (ok_is BadLength _ _ steps.2)
+    (family, has.1, ap (λ (front : List ℕ). front ++ rest) has.0, steps.1)
 
 -- what is read says so
-behind_found : {A : Type 0} (caps : Caps) (value : List ℕ) (read : Family → Result A Wrong) (said : Option A) → read_behind caps value read ≡ Ok said → Says caps value read said
+behind_found : {A : Type 0} (caps : Caps) (value : List ℕ) (read : Family → Result A Wrong) (said : Option A)
+    → read_behind caps value read ≡ Ok said → Says caps value read said
 behind_found caps [] read said is = absurd cc
 behind_found caps (first ∷ []) read said is = absurd cc
 behind_found caps (first ∷ second ∷ []) read said is = absurd cc
@@ -113,20 +132,27 @@ behind_found caps (first ∷ second ∷ third ∷ rest) read said is =
     where_found caps first second third rest read (agreed_in caps value) said refl parts.1
 
 -- a value of a family of the session is read
-behind_only : {A : Type 0} (caps : Caps) (family : Family) (rest : List ℕ) (read : Family → Result A Wrong) (x : A) → has_family caps family ≡ true → read family ≡ Ok x → read_behind caps (family_text family ++ rest) read ≡ Ok (Some x)
+behind_only : {A : Type 0} (caps : Caps) (family : Family) (rest : List ℕ) (read : Family → Result A Wrong) (x : A)
+    → has_family caps family ≡ true → read family ≡ Ok x → read_behind caps (family_text family ++ rest) read
+    ≡ Ok (Some x)
 behind_only caps family rest read x has is =
-    let long : ltb (length (family_text family ++ rest)) 3 ≡ false = le-ltb _ _ (omega (arith, family_length family, length-append (family_text family) rest)) in
+    let long : ltb (length (family_text family ++ rest)) 3 ≡ false =
+    le-ltb _ _ (omega (arith, family_length family, length-append (family_text family) rest)) in
     rw (long, agreed_only caps family rest has, is) refl
 
 -- three bytes that are no family of the session are found to be none
-none_agreed : (caps : Caps) (first second third : ℕ) (rest : List ℕ) (found : Option Family) → ((family : Family) → has_family caps family ≡ true → first ∷ second ∷ third ∷ [] ≢ family_text family) → agreed_in caps (first ∷ second ∷ third ∷ rest) ≡ found → found ≡ None
+none_agreed : (caps : Caps) (first second third : ℕ) (rest : List ℕ) (found : Option Family)
+    → ((family : Family) → has_family caps family ≡ true → first ∷ second ∷ third ∷ [] ≢ family_text family)
+    → agreed_in caps (first ∷ second ∷ third ∷ rest) ≡ found → found ≡ None
 none_agreed caps first second third rest None other is = refl
 none_agreed caps first second third rest (Some family) other is =
     let has = agreed_found caps first second third rest family is in
     absurd (other family has.1 has.0)
 
 -- a value that begins with no family of the session says nothing
-elsewhere_only : {A : Type 0} (caps : Caps) (front rest : List ℕ) (read : Family → Result A Wrong) → length front ≡ 3 → ((family : Family) → has_family caps family ≡ true → front ≢ family_text family) → read_behind caps (front ++ rest) read ≡ Ok None
+elsewhere_only : {A : Type 0} (caps : Caps) (front rest : List ℕ) (read : Family → Result A Wrong) → length front ≡ 3
+    → ((family : Family) → has_family caps family ≡ true → front ≢ family_text family)
+    → read_behind caps (front ++ rest) read ≡ Ok None
 elsewhere_only caps [] rest read three other = absurd (omega arith)
 elsewhere_only caps (first ∷ []) rest read three other = absurd (omega arith)
 elsewhere_only caps (first ∷ second ∷ []) rest read three other = absurd (omega arith)
@@ -135,114 +161,6 @@ elsewhere_only caps (first ∷ second ∷ third ∷ []) rest read three other =
     let long : ltb (length value) 3 ≡ false = le-ltb _ _ (omega arith) in
     rw (long, none_agreed caps first second third rest (agreed_in caps value) other refl) refl
 elsewhere_only caps (first ∷ second ∷ third ∷ fourth ∷ front) rest read three other = absurd (omega arith)
-
--- ---- the next hop
-
--- a next hop that is read is spelled
-hop_found : (family : Family) (text : List ℕ) (hop : Addr) → AreBytes text → hop_in family text ≡ Some hop → SpellsHop family text hop
-hop_found Ipv4 text hop are is =
-    let parts = cond_some (eqb (length text) 4) (V4 (from_be_bytes w32 text)) hop is in
-    (from_be_bytes w32 text, wide32.below text are, sym parts.1, sym (wide32.back text (eqb-true _ _ parts.0) are))
-hop_found Ipv6 text hop are is =
-    let parts = cond_some (eqb (length text) 16 || eqb (length text) 32) (V6 (from_be_bytes w128 text)) hop is in
-    let lengths : (length text ≡ 16) ⊎ (length text ≡ 32) = elim (or_cases (eqb (length text) 16) (eqb (length text) 32) parts.0) [ inl short ↦ inl (eqb-true _ _ short) | inr long ↦ inr (eqb-true _ _ long) ] in
-    let more : (length (drop 16 text) ≡ 0) ⊎ (length (drop 16 text) ≡ 16) = elim lengths [ inl short ↦ inl (omega (arith, length-drop 16 text)) | inr long ↦ inr (omega (arith, length-drop 16 text)) ] in
-    let long : 16 ≤ length text = elim lengths [ inl short ↦ omega arith | inr long ↦ omega arith ] in
-    (from_be_bytes w128 text, wide128.below text are, sym parts.1, drop 16 text, more, sym (number_written w128 (2 ^ 128) wide128 text are long))
-
--- a next hop that is spelled is read
-hop_only : (family : Family) (text : List ℕ) (hop : Addr) → SpellsHop family text hop → hop_in family text ≡ Some hop
-hop_only Ipv4 text hop spelled =
-    let n : ℕ = spelled.0 in
-    let is : hop_in Ipv4 (to_be_bytes w32 n) ≡ Some (V4 n) = ap (λ (m : ℕ). Some (V4 m)) (wide32.again n spelled.1) in
-    ap (hop_in Ipv4) spelled.3 ∙ is ∙ ap (λ (addr : Addr). Some addr) (sym spelled.2)
-hop_only Ipv6 text hop spelled =
-    let n : ℕ = spelled.0 in
-    let more : List ℕ = spelled.3 in
-    let whole : List ℕ = to_be_bytes w128 n ++ more in
-    let tests : (eqb (length whole) 16 || eqb (length whole) 32) ≡ true =
-    elim spelled.4 [
-      | inl none ↦ or_left _ _ (eq-eqb (length whole) 16 (omega (arith, none, length-append (to_be_bytes w128 n) more)))
-      | inr some ↦ or_right _ _ (eq-eqb (length whole) 32 (omega (arith, some, length-append (to_be_bytes w128 n) more)))
-    ] in
-    let is : hop_in Ipv6 whole ≡ Some (V6 n) = rw (tests, number_read w128 (2 ^ 128) wide128 n more spelled.1) refl in
-    ap (hop_in Ipv6) spelled.5 ∙ is ∙ ap (λ (addr : Addr). Some addr) (sym spelled.2)
-
--- ---- what stands behind the family
-
--- a reading that didn't fail in other words
-blamed_ok : {A D E : Type 0} (say : D → E) (r : Result A D) (x : A) → blamed say r ≡ Ok x → r ≡ Ok x
-blamed_ok say (Ok y) x is = cc
-blamed_ok say (Err d) x is = absurd cc
-
--- keys that are read within a value are spelled
-keys_value_found : (caps : Caps) (family : Family) (bytes : List ℕ) (keys : List Key) → AreBytes bytes → keys_value caps family bytes ≡ Ok keys → SpellsEach (SpellsKey (has_path caps family) family) bytes keys
-keys_value_found caps family bytes keys are is = keys_found (has_path caps family) family bytes keys are (blamed_ok (λ place. BadValue) (keys_in (has_path caps family) family bytes) keys is)
-
--- keys that are spelled within a value are read
-keys_value_only : (caps : Caps) (family : Family) (bytes : List ℕ) (keys : List Key) → SpellsEach (SpellsKey (has_path caps family) family) bytes keys → keys_value caps family bytes ≡ Ok keys
-keys_value_only caps family bytes keys spelled = ap (blamed (λ place. BadValue)) (keys_only (has_path caps family) family bytes keys spelled)
-
--- a next hop behind its length, a reserved byte, and prefixes
-record IsReached (caps : Caps) (family : Family) (bytes : List ℕ) (reached : Reached) : Type 0 where
-  pub hop_text : List ℕ
-  pub reserved : ℕ
-  pub prefixes : List ℕ
-  pub text : bytes ≡ length hop_text ∷ (hop_text ++ reserved ∷ prefixes)
-  pub hop : SpellsHop family hop_text reached.hop
-  pub spelled : SpellsEach (SpellsKey (has_path caps family) family) prefixes reached.keys
-
--- bytes that are longer than their first part are it, one more byte, and others
-cut : (len : ℕ) (bytes : List ℕ) → len < length bytes → bytes ≡ take len bytes ++ get_or bytes len 0 ∷ drop (len + 1) bytes
-cut len bytes long = sym (take-append-drop len bytes) ∙ ap (λ (rest : List ℕ). take len bytes ++ rest) (drop_more bytes len 0 long)
-
--- what stands behind one more byte
-behind_len : (len byte : ℕ) (bytes : List ℕ) → drop (len + 2) (byte ∷ bytes) ≡ drop (len + 1) bytes
-behind_len len byte bytes =
-    let step : len + 2 ≡ suc (len + 1) = omega arith in
-    ap (λ n. drop n (byte ∷ bytes)) step
-
--- what stands behind a first part and one more byte
-behind_cut : (front : List ℕ) (byte : ℕ) (rest : List ℕ) → drop (length front + 1) (front ++ byte ∷ rest) ≡ rest
-behind_cut front byte rest =
-    ap (λ (bytes : List ℕ). drop (length front + 1) bytes) (sym (append_assoc front (byte ∷ []) rest)) ∙ drop_at (front ++ byte ∷ []) rest (length front + 1) (length-append front (byte ∷ []))
-
--- what is read behind the family is spelled
-reached_found : (caps : Caps) (family : Family) (bytes : List ℕ) (reached : Reached) → AreBytes bytes → reached_in caps family bytes ≡ Ok reached → IsReached caps family bytes reached
-unfolding reached_in
-reached_found caps family [] reached are is = absurd cc
-reached_found caps family (len ∷ bytes) reached are is =
-    let behind : Addr → Result Reached Wrong = λ hop. keys_value caps family (drop (len + 2) (len ∷ bytes)) >>= λ keys. Ok (record { hop = hop; keys = keys }) in
-    let parts = unless_fault (ltb (length (len ∷ bytes)) (len + 2)) BadLength (ok_or (hop_in family (take len bytes)) BadValue >>= behind) reached is in
-    let first = bind_ok (ok_or (hop_in family (take len bytes)) BadValue) behind reached parts.1 in
-    let second = bind_ok (keys_value caps family (drop (len + 2) (len ∷ bytes))) (λ keys. Ok (record { hop = first.0; keys = keys })) reached first.2 in
-    let long : len + 2 ≤ length (len ∷ bytes) = ltb-false _ _ parts.0 in
-    let hop_len : length (take len bytes) ≡ len = omega (arith, length-take len bytes) in
-    let rest : drop (len + 2) (len ∷ bytes) ≡ drop (len + 1) bytes = behind_len len len bytes in
-    let rests : AreBytes bytes = bytes_rest len bytes are in
-    let keys = keys_value_found caps family (drop (len + 1) bytes) second.0 (bytes_drop (len + 1) bytes rests) (ap (keys_value caps family) (sym rest) ∙ second.1) in
-    let whole : len ∷ bytes ≡ length (take len bytes) ∷ (take len bytes ++ get_or bytes len 0 ∷ drop (len + 1) bytes) = λ i. sym hop_len i ∷ cut len bytes (omega arith) i in
-    let found : IsReached caps family (len ∷ bytes) (record { hop = first.0; keys = second.0 }) = record {
-      hop_text = take len bytes;
-      reserved = get_or bytes len 0;
-      prefixes = drop (len + 1) bytes;
-      text = whole;
-      hop = hop_found family (take len bytes) first.0 (bytes_take len bytes rests) (ok_or_some _ _ _ first.1);
-      spelled = keys;
-    } in
-    subst (IsReached caps family (len ∷ bytes)) (ok_is BadLength _ _ second.2) found
-
--- what is spelled behind the family is read
-reached_only : (caps : Caps) (family : Family) (bytes : List ℕ) (reached : Reached) → IsReached caps family bytes reached → reached_in caps family bytes ≡ Ok reached
-unfolding reached_in
-reached_only caps family bytes reached is =
-    let len : ℕ = length is.hop_text in
-    let behind : List ℕ = is.hop_text ++ is.reserved ∷ is.prefixes in
-    let long : ltb (length (len ∷ behind)) (len + 2) ≡ false = le-ltb _ _ (omega (arith, length-append is.hop_text (is.reserved ∷ is.prefixes))) in
-    let hop : hop_in family (take len behind) ≡ Some reached.hop = ap (hop_in family) (take_at is.hop_text (is.reserved ∷ is.prefixes) len refl) ∙ hop_only family is.hop_text reached.hop is.hop in
-    let rest : drop (len + 2) (len ∷ behind) ≡ is.prefixes = behind_len len len behind ∙ behind_cut is.hop_text is.reserved is.prefixes in
-    let keys : keys_value caps family (drop (len + 2) (len ∷ behind)) ≡ Ok reached.keys = ap (keys_value caps family) rest ∙ keys_value_only caps family is.prefixes reached.keys is.spelled in
-    ap (reached_in caps family) is.text ∙ rw (long, hop, keys) refl
 
 -- ---- the two attributes
 
@@ -257,7 +175,8 @@ SaysUnreach caps value None = IsElsewhere caps value
 SaysUnreach caps value (Some keys) = SpellsUnreach caps value keys
 
 -- what is said of a family, with the family
-reach_of : (caps : Caps) (value : List ℕ) (said : Option Reached) → AreBytes value → Says caps value (λ family. reached_in caps family (drop 3 value)) said → SaysReach caps value said
+reach_of : (caps : Caps) (value : List ℕ) (said : Option Reached) → AreBytes value
+    → Says caps value (λ family. reached_in caps family (drop 3 value)) said → SaysReach caps value said
 reach_of caps value None are says = says
 reach_of caps value (Some reached) are says =
     let is = reached_found caps says.0 (drop 3 value) reached (bytes_drop 3 value are) says.3 in
@@ -273,25 +192,40 @@ reach_of caps value (Some reached) are says =
     }
 
 -- an MP_REACH_NLRI that is read is spelled
-pub reach_found : (caps : Caps) (value : List ℕ) (said : Option Reached) → AreBytes value → reach_in caps value ≡ Ok said → SaysReach caps value said
+pub reach_found : (caps : Caps) (value : List ℕ) (said : Option Reached) → AreBytes value
+    → reach_in caps value ≡ Ok said → SaysReach caps value said
 unfolding reach_in
-reach_found caps value said are is = reach_of caps value said are (behind_found caps value (λ family. reached_in caps family (drop 3 value)) said is)
+reach_found caps value said are is = reach_of caps value said are
+    (behind_found caps value (λ family. reached_in caps family (drop 3 value)) said is)
 
 -- an MP_REACH_NLRI that is spelled is read
-pub reach_only : (caps : Caps) (value : List ℕ) (said : Option Reached) → SaysReach caps value said → reach_in caps value ≡ Ok said
+pub reach_only : (caps : Caps) (value : List ℕ) (said : Option Reached) → SaysReach caps value said
+    → reach_in caps value ≡ Ok said
 unfolding reach_in
 reach_only caps value None says =
     ap (λ (bytes : List ℕ). read_behind caps bytes (λ family. reached_in caps family (drop 3 bytes))) says.text
-    ∙ elsewhere_only caps says.family says.rest (λ family. reached_in caps family (drop 3 (says.family ++ says.rest))) says.three says.other
+    ∙ elsewhere_only caps says.family says.rest (λ family. reached_in caps family (drop 3 (says.family ++ says.rest)))
+    says.three says.other
 reach_only caps value (Some reached) says =
     let bytes : List ℕ = length says.hop_text ∷ (says.hop_text ++ says.reserved ∷ says.prefixes) in
-    let is : IsReached caps says.family bytes reached = record { hop_text = says.hop_text; reserved = says.reserved; prefixes = says.prefixes; text = refl; hop = says.hop; spelled = says.spelled } in
+    let is : IsReached caps says.family bytes reached = record {
+      hop_text = says.hop_text;
+      reserved = says.reserved;
+      prefixes = says.prefixes;
+      text = refl;
+      hop = says.hop;
+      spelled = says.spelled;
+    } in
     let whole : List ℕ = family_text says.family ++ bytes in
-    let read : reached_in caps says.family (drop 3 whole) ≡ Ok reached = ap (reached_in caps says.family) (drop_at (family_text says.family) bytes 3 (family_length says.family)) ∙ reached_only caps says.family bytes reached is in
-    ap (λ (value : List ℕ). read_behind caps value (λ family. reached_in caps family (drop 3 value))) says.text ∙ behind_only caps says.family bytes (λ family. reached_in caps family (drop 3 whole)) reached says.agreed read
+    let read : reached_in caps says.family (drop 3 whole) ≡ Ok reached =
+    ap (reached_in caps says.family) (drop_at (family_text says.family) bytes 3 (family_length says.family))
+    ∙ reached_only caps says.family bytes reached is in
+    ap (λ (value : List ℕ). read_behind caps value (λ family. reached_in caps family (drop 3 value))) says.text
+    ∙ behind_only caps says.family bytes (λ family. reached_in caps family (drop 3 whole)) reached says.agreed read
 
 -- what is said of a family, with the family
-unreach_of : (caps : Caps) (value : List ℕ) (said : Option (List Key)) → AreBytes value → Says caps value (λ family. keys_value caps family (drop 3 value)) said → SaysUnreach caps value said
+unreach_of : (caps : Caps) (value : List ℕ) (said : Option (List Key)) → AreBytes value
+    → Says caps value (λ family. keys_value caps family (drop 3 value)) said → SaysUnreach caps value said
 unreach_of caps value None are says = says
 unreach_of caps value (Some keys) are says = record {
   family = says.0;
@@ -302,17 +236,25 @@ unreach_of caps value (Some keys) are says = record {
 }
 
 -- an MP_UNREACH_NLRI that is read is spelled
-pub unreach_found : (caps : Caps) (value : List ℕ) (said : Option (List Key)) → AreBytes value → unreach_in caps value ≡ Ok said → SaysUnreach caps value said
+pub unreach_found : (caps : Caps) (value : List ℕ) (said : Option (List Key)) → AreBytes value
+    → unreach_in caps value ≡ Ok said → SaysUnreach caps value said
 unfolding unreach_in
-unreach_found caps value said are is = unreach_of caps value said are (behind_found caps value (λ family. keys_value caps family (drop 3 value)) said is)
+unreach_found caps value said are is = unreach_of caps value said are
+    (behind_found caps value (λ family. keys_value caps family (drop 3 value)) said is)
 
 -- an MP_UNREACH_NLRI that is spelled is read
-pub unreach_only : (caps : Caps) (value : List ℕ) (said : Option (List Key)) → SaysUnreach caps value said → unreach_in caps value ≡ Ok said
+pub unreach_only : (caps : Caps) (value : List ℕ) (said : Option (List Key)) → SaysUnreach caps value said
+    → unreach_in caps value ≡ Ok said
 unfolding unreach_in
 unreach_only caps value None says =
     ap (λ (bytes : List ℕ). read_behind caps bytes (λ family. keys_value caps family (drop 3 bytes))) says.text
-    ∙ elsewhere_only caps says.family says.rest (λ family. keys_value caps family (drop 3 (says.family ++ says.rest))) says.three says.other
+    ∙ elsewhere_only caps says.family says.rest (λ family. keys_value caps family (drop 3 (says.family ++ says.rest)))
+    says.three says.other
 unreach_only caps value (Some keys) says =
     let whole : List ℕ = family_text says.family ++ says.prefixes in
-    let read : keys_value caps says.family (drop 3 whole) ≡ Ok keys = ap (keys_value caps says.family) (drop_at (family_text says.family) says.prefixes 3 (family_length says.family)) ∙ keys_value_only caps says.family says.prefixes keys says.spelled in
-    ap (λ (value : List ℕ). read_behind caps value (λ family. keys_value caps family (drop 3 value))) says.text ∙ behind_only caps says.family says.prefixes (λ family. keys_value caps family (drop 3 whole)) keys says.agreed read
+    let read : keys_value caps says.family (drop 3 whole) ≡ Ok keys =
+    ap (keys_value caps says.family) (drop_at (family_text says.family) says.prefixes 3 (family_length says.family))
+    ∙ keys_value_only caps says.family says.prefixes keys says.spelled in
+    ap (λ (value : List ℕ). read_behind caps value (λ family. keys_value caps family (drop 3 value))) says.text
+    ∙ behind_only caps says.family says.prefixes (λ family. keys_value caps family (drop 3 whole)) keys says.agreed
+    read

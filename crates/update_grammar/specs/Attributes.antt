@@ -1,7 +1,9 @@
 -- A path attribute as bytes (RFC 4271, section 4.3): flags, code, length, value.
-use Rattle.std.specs.Prelude.{ℕ, ◌≡◌, ◌≢◌, ◌⊎◌, ◌/◌, ◌%◌, ◌^◌, ◌<◌, ◌≤◌, ◌==◌, Bool, List, [], ◌∷◌, ◌++◌, length, if◌then◌else◌}
+use Rattle.std.specs.Prelude.{ℕ, ◌≡◌, ◌≢◌, ◌⊎◌, ◌/◌, ◌%◌, ◌^◌, ◌<◌, ◌≤◌, ◌==◌, Bool, List, [], ◌∷◌, ◌++◌, length}
+use Rattle.std.specs.Prelude.{if◌then◌else◌}
 use Rattle.std.specs.List.{AllByRecursion}
 use Rattle.std.specs.Int.{w16, to_be_bytes}
+use Rattle.update_grammar.specs.Codes.{code_origin, code_clusters, code_reach, code_extended, code_large}
 
 -- an attribute whose value isn't looked at yet
 pub record Raw : Type 0 where
@@ -50,7 +52,9 @@ pub record IsOf (a : Raw) (the_flags the_code : ℕ) : Type 0 where
 
 -- the codes that are known: 1 to 10, 14 to 16, and 32
 abbrev pub IsKnown : ℕ → Type 0
-IsKnown code = ((1 ≤ code) × (code ≤ 10)) ⊎ ((14 ≤ code) × (code ≤ 16)) ⊎ (code ≡ 32)
+IsKnown code =
+    ((code_origin ≤ code) × (code ≤ code_clusters)) ⊎ ((code_reach ≤ code) × (code ≤ code_extended))
+    ⊎ (code ≡ code_large)
 
 -- an unknown attribute that is optional is passed over
 abbrev pub IsPassedOver : Raw → Type 0

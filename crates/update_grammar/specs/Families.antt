@@ -8,21 +8,22 @@ use Rattle.route_values.specs.declared.addr.Family.TheVariants.{Ipv4, Ipv6}
 use Rattle.route_values.specs.Caps.{Caps}
 use Rattle.route_values.specs.declared.key.Key.{Key}
 use Rattle.route_values.specs.Visible.{has_family, has_path}
+use Rattle.update_grammar.specs.Codes.{afi_ipv4, afi_ipv6, safi_unicast, family_len}
 use Rattle.update_grammar.specs.declared.effect.Reached.{Reached}
 use Rattle.update_grammar.specs.Pieces.{SpellsEach}
 use Rattle.update_grammar.specs.Prefixes.{SpellsKey}
 
 -- a family's AFI in two bytes and its SAFI, which is 1 for unicast
 abbrev pub family_text : Family → List ℕ
-family_text Ipv4 = 0 ∷ 1 ∷ 1 ∷ []
-family_text Ipv6 = 0 ∷ 2 ∷ 1 ∷ []
+family_text Ipv4 = 0 ∷ afi_ipv4 ∷ safi_unicast ∷ []
+family_text Ipv6 = 0 ∷ afi_ipv6 ∷ safi_unicast ∷ []
 
 -- a value that begins with an AFI and a SAFI of no family of the session; the rest isn't looked at
 pub record IsElsewhere (caps : Caps) (value : List ℕ) : Type 0 where
   pub family : List ℕ
   pub rest : List ℕ
   pub text : value ≡ family ++ rest
-  pub three : length family ≡ 3
+  pub three : length family ≡ family_len
   pub other : (f : Family) → IsTrue (has_family caps f) → family ≢ family_text f
 
 -- a next hop: 4 bytes for IPv4; 16 for IPv6, or 32 of which the first 16 count

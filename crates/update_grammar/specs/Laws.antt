@@ -17,12 +17,14 @@ use Rattle.update_grammar.specs.Written.{written, body_of, IsSendable, IsCarried
 
 -- a message that announces keys with attributes spells one announcement a key, in order
 abbrev pub HereIsSpelled : Family → Type 0
-HereIsSpelled family = (caps : Caps) (w : WireAttrs) (keys : List Key) → IsSendable family w → AllByRecursion (IsCarried caps family) keys → length (written caps (head.Here family w) keys) < 2 ^ 16
+HereIsSpelled family = (caps : Caps) (w : WireAttrs) (keys : List Key) → IsSendable family w
+    → AllByRecursion (IsCarried caps family) keys → length (written caps (head.Here family w) keys) < 2 ^ 16
     → Spells caps (body_of (written caps (head.Here family w) keys)) (here_all w keys)
 
 -- a message that withdraws keys spells one withdrawal a key, in order
 abbrev pub GoneIsSpelled : Family → Type 0
-GoneIsSpelled family = (caps : Caps) (keys : List Key) → AllByRecursion (IsCarried caps family) keys → length (written caps (head.Gone family) keys) < 2 ^ 16
+GoneIsSpelled family = (caps : Caps) (keys : List Key) → AllByRecursion (IsCarried caps family) keys
+    → length (written caps (head.Gone family) keys) < 2 ^ 16
     → Spells caps (body_of (written caps (head.Gone family) keys)) (gone_all keys)
 
 -- the marker of a family spells no effect
@@ -39,11 +41,13 @@ IsMarker bytes = (caps : Caps) × (family : Family) × (bytes ≡ written caps (
 
 -- no announcement has the text of a marker
 abbrev pub HereIsNoMarker : Type 0
-HereIsNoMarker = (caps : Caps) (family : Family) (w : WireAttrs) (keys : List Key) → ¬ (IsMarker (written caps (head.Here family w) keys))
+HereIsNoMarker = (caps : Caps) (family : Family) (w : WireAttrs) (keys : List Key)
+    → ¬ (IsMarker (written caps (head.Here family w) keys))
 
 -- no withdrawal of at least one key has the text of a marker
 abbrev pub GoneIsNoMarker : Type 0
-GoneIsNoMarker = (caps : Caps) (family : Family) (key : Key) (keys : List Key) → ¬ (IsMarker (written caps (head.Gone family) (key ∷ keys)))
+GoneIsNoMarker = (caps : Caps) (family : Family) (key : Key) (keys : List Key)
+    → ¬ (IsMarker (written caps (head.Gone family) (key ∷ keys)))
 
 -- numbers below 256
 abbrev pub AreBytes : List ℕ → Type 0
@@ -51,20 +55,25 @@ AreBytes bytes = (i : ℕ) → get_or bytes i 0 < 256
 
 -- what attributes are read as is what they spell
 abbrev pub ReadAttrsAreSpelled : Type 0
-ReadAttrsAreSpelled = (caps : Caps) (bytes : List ℕ) (said : List Attr) → AreBytes bytes → attrs_in caps bytes ≡ Ok said → SpellsAttributes caps bytes said
+ReadAttrsAreSpelled = (caps : Caps) (bytes : List ℕ) (said : List Attr) → AreBytes bytes → attrs_in caps bytes ≡ Ok said
+    → SpellsAttributes caps bytes said
 
 -- what attributes spell is what they are read as
 abbrev pub SpelledAttrsAreRead : Type 0
-SpelledAttrsAreRead = (caps : Caps) (bytes : List ℕ) (said : List Attr) → SpellsAttributes caps bytes said → attrs_in caps bytes ≡ Ok said
+SpelledAttrsAreRead = (caps : Caps) (bytes : List ℕ) (said : List Attr) → SpellsAttributes caps bytes said
+    → attrs_in caps bytes ≡ Ok said
 
 -- what a body is read as is what it spells
 abbrev pub ReadEffectsAreSpelled : Type 0
-ReadEffectsAreSpelled = (caps : Caps) (bytes : List ℕ) (effects : List Effect) → AreBytes bytes → effects_in caps bytes ≡ Ok effects → Spells caps bytes effects
+ReadEffectsAreSpelled = (caps : Caps) (bytes : List ℕ) (effects : List Effect) → AreBytes bytes
+    → effects_in caps bytes ≡ Ok effects → Spells caps bytes effects
 
 -- what a body spells is what it is read as
 abbrev pub SpelledEffectsAreRead : Type 0
-SpelledEffectsAreRead = (caps : Caps) (bytes : List ℕ) (effects : List Effect) → Spells caps bytes effects → effects_in caps bytes ≡ Ok effects
+SpelledEffectsAreRead = (caps : Caps) (bytes : List ℕ) (effects : List Effect) → Spells caps bytes effects
+    → effects_in caps bytes ≡ Ok effects
 
 -- a body spells at most one list of effects
 abbrev pub EffectsAreOne : Type 0
-EffectsAreOne = (caps : Caps) (bytes : List ℕ) (effects others : List Effect) → Spells caps bytes effects → Spells caps bytes others → effects ≡ others
+EffectsAreOne = (caps : Caps) (bytes : List ℕ) (effects others : List Effect) → Spells caps bytes effects
+    → Spells caps bytes others → effects ≡ others

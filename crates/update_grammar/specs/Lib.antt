@@ -1,3 +1,4 @@
+pub mod Codes
 pub mod Pieces
 pub mod Prefixes
 pub mod Values

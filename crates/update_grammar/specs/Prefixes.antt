@@ -1,6 +1,7 @@
 -- Prefixes on the wire (RFC 4271, section 4.3; RFC 7911, section 3): a bit count, and the fewest bytes that hold so
 -- many bits. Where a session has path identifiers for the family, four bytes of identifier stand before it.
-use Rattle.std.specs.Prelude.{ℕ, ◌≡◌, ◌+◌, ◌-◌, ◌*◌, ◌/◌, ◌^◌, ◌<◌, ◌≤◌, Bool, true, false, List, [], ◌∷◌, ◌++◌, length, take, if◌then◌else◌}
+use Rattle.std.specs.Prelude.{ℕ, ◌≡◌, ◌+◌, ◌-◌, ◌*◌, ◌/◌, ◌^◌, ◌<◌, ◌≤◌, Bool, true, false, List, [], ◌∷◌, ◌++◌, length}
+use Rattle.std.specs.Prelude.{take, if◌then◌else◌}
 use Rattle.std.specs.List.{flat_map}
 use Rattle.std.specs.Int.{w32, w128, to_be_bytes, from_be_bytes}
 use Rattle.route_values.specs.declared.addr.Addr.{Addr}
@@ -45,7 +46,8 @@ addr_from Ipv6 bits field = V6 (first_bits 128 bits (from_be_bytes w128 field))
 -- a bit count, and so many bits in the fewest bytes
 abbrev pub SpellsBlock : Family → List ℕ → Block → Type 0
 SpellsBlock family text b =
-    (field : List ℕ) × (text ≡ b.len ∷ field) × (b.len ≤ bits_of family) × (length field ≡ bytes_for b.len) × (b.addr ≡ addr_from family b.len field)
+    (field : List ℕ) × (text ≡ b.len ∷ field) × (b.len ≤ bits_of family) × (length field ≡ bytes_for b.len)
+    × (b.addr ≡ addr_from family b.len field)
 
 -- four bytes of identifier, or none and the identifier 0
 abbrev pub SpellsId : Bool → List ℕ → ℕ → Type 0
@@ -55,4 +57,5 @@ SpellsId false text id = (text ≡ []) × (id ≡ 0)
 -- an identifier, where there is one, and a prefix
 abbrev pub SpellsKey : Bool → Family → List ℕ → Key → Type 0
 SpellsKey path family text key =
-    (id : List ℕ) × (block : List ℕ) × (text ≡ id ++ block) × SpellsId path id key.id × SpellsBlock family block key.prefix
+    (id : List ℕ) × (block : List ℕ) × (text ≡ id ++ block) × SpellsId path id key.id
+    × SpellsBlock family block key.prefix

@@ -1,17 +1,23 @@
 -- Path attributes as they are read (RFC 4271, sections 4.3, 5 and 6.3): what they say, or the first fault. An attribute
 -- is looked at in this order: whether it is cut, its flags, whether its code stood before, the length of its value, and
 -- its value.
-use Rattle.std.specs.Prelude.{ℕ, ◌+◌, ◌-◌, ◌==◌, nat_lt, Bool, true, false, not, ◌||◌, List, [], ◌∷◌, length, take, drop, get_or, Option, Some, None, option_and_then, option_to_list, ok_or, Result, Ok, Err, if◌then◌else◌}
+use Rattle.std.specs.Prelude.{ℕ, ◌+◌, ◌-◌, ◌==◌, nat_lt, Bool, true, false, not, ◌||◌, List, [], ◌∷◌, length, take}
+use Rattle.std.specs.Prelude.{drop, get_or, Option, Some, None, option_and_then, option_to_list, ok_or, Result, Ok, Err}
+use Rattle.std.specs.Prelude.{if◌then◌else◌}
 use Rattle.std.specs.Int.{w16, from_be_bytes}
 use Rattle.std.specs.List.{flat_map, list_any}
 use Rattle.route_values.specs.Caps.{Caps}
+use Rattle.update_grammar.specs.Codes.{code_origin, code_as_path, code_next_hop, code_med, code_local_pref, code_atomic}
+use Rattle.update_grammar.specs.Codes.{code_aggregator, code_communities, code_originator, code_clusters, code_reach}
+use Rattle.update_grammar.specs.Codes.{code_unreach, code_extended, code_large}
 use Rattle.update_grammar.specs.declared.effect.Attr.{Attr}
 use Rattle.update_grammar.specs.declared.effect.Attr.TheVariants as says
 use Rattle.update_grammar.specs.declared.fault.AttrFault.{AttrFault}
 use Rattle.update_grammar.specs.declared.fault.AttrFault.TheVariants as fault
 use Rattle.update_grammar.specs.Attributes.{Raw, transitive, optional, optional_transitive, is_extended, kind}
 use Rattle.update_grammar.specs.Steps.{◌>>=◌, blamed, each}
-use Rattle.update_grammar.specs.ReadValues.{Wrong, BadLength, BadValue, sized, origin_in, path_in, number_in, aggregator_in, numbers_in, exts_in, larges_in}
+use Rattle.update_grammar.specs.ReadValues.{Wrong, BadLength, BadValue, sized, origin_in, path_in, number_in}
+use Rattle.update_grammar.specs.ReadValues.{aggregator_in, numbers_in, exts_in, larges_in}
 use Rattle.update_grammar.specs.ReadFamilies.{reach_in, unreach_in}
 
 -- a length of two bytes or of one, and the bytes behind it
@@ -29,14 +35,18 @@ raw_with flags code (len, bytes) =
 unfoldable pub raw_at : List ℕ → Option (Raw × List ℕ)
 raw_at bytes =
     if nat_lt (length bytes) 2 then None else
-    option_and_then (raw_with (get_or bytes 0 0) (get_or bytes 1 0)) (len_at (is_extended (get_or bytes 0 0)) (drop 2 bytes))
+    option_and_then (raw_with (get_or bytes 0 0) (get_or bytes 1 0))
+    (len_at (is_extended (get_or bytes 0 0)) (drop 2 bytes))
 
 -- the flags of a known code
 abbrev pub flags_of_code : ℕ → Option ℕ
 flags_of_code code =
-    if code == 1 || code == 2 || code == 3 || code == 5 || code == 6 then Some transitive else
-    if code == 4 || code == 9 || code == 10 || code == 14 || code == 15 then Some optional else
-    if code == 7 || code == 8 || code == 16 || code == 32 then Some optional_transitive else None
+    if code == code_origin || code == code_as_path || code == code_next_hop || code == code_local_pref
+    || code == code_atomic then Some transitive else
+    if code == code_med || code == code_originator || code == code_clusters || code == code_reach
+    || code == code_unreach then Some optional else
+    if code == code_aggregator || code == code_communities || code == code_extended || code == code_large
+    then Some optional_transitive else None
 
 -- a known code has its own optional and transitive bits, an unknown one is optional
 abbrev pub has_flags : Option ℕ → ℕ → Bool
@@ -50,20 +60,20 @@ said_as say read = read >>= λ value. Ok (Some (say value))
 -- what a value of a code says; one of an unknown code says nothing
 unfoldable pub value_in : Caps → ℕ → List ℕ → Result (Option Attr) Wrong
 value_in caps code value =
-    if code == 1 then said_as says.Origin (origin_in value) else
-    if code == 2 then said_as says.Path (path_in value) else
-    if code == 3 then said_as says.NextHop (number_in value) else
-    if code == 4 then said_as says.Med (number_in value) else
-    if code == 5 then said_as says.LocalPref (number_in value) else
-    if code == 6 then said_as (λ empty. says.Atomic) (sized 0 (λ bytes. bytes) value) else
-    if code == 7 then said_as says.Aggregator (aggregator_in value) else
-    if code == 8 then said_as says.Communities (numbers_in value) else
-    if code == 9 then said_as says.Originator (number_in value) else
-    if code == 10 then said_as says.Clusters (numbers_in value) else
-    if code == 14 then said_as says.Reach (reach_in caps value) else
-    if code == 15 then said_as says.Unreach (unreach_in caps value) else
-    if code == 16 then said_as says.Extended (exts_in value) else
-    if code == 32 then said_as says.Large (larges_in value) else Ok None
+    if code == code_origin then said_as says.Origin (origin_in value) else
+    if code == code_as_path then said_as says.Path (path_in value) else
+    if code == code_next_hop then said_as says.NextHop (number_in value) else
+    if code == code_med then said_as says.Med (number_in value) else
+    if code == code_local_pref then said_as says.LocalPref (number_in value) else
+    if code == code_atomic then said_as (λ empty. says.Atomic) (sized 0 (λ bytes. bytes) value) else
+    if code == code_aggregator then said_as says.Aggregator (aggregator_in value) else
+    if code == code_communities then said_as says.Communities (numbers_in value) else
+    if code == code_originator then said_as says.Originator (number_in value) else
+    if code == code_clusters then said_as says.Clusters (numbers_in value) else
+    if code == code_reach then said_as says.Reach (reach_in caps value) else
+    if code == code_unreach then said_as says.Unreach (unreach_in caps value) else
+    if code == code_extended then said_as says.Extended (exts_in value) else
+    if code == code_large then said_as says.Large (larges_in value) else Ok None
 
 -- how many bytes stand before a value: flags, code, and a length of one byte or of two
 abbrev pub head_len : ℕ → ℕ

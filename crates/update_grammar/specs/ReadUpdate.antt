@@ -1,6 +1,7 @@
 -- The body of an UPDATE as it is read (RFC 4271, sections 4.3 and 6.3; RFC 4760, section 3): its effects, or the first
 -- fault. The order is: the lengths of its fields, withdrawn prefixes, attributes, announced prefixes, what is missing.
-use Rattle.std.specs.Prelude.{ℕ, ◌+◌, nat_lt, List, [], ◌∷◌, ◌++◌, length, take, drop, Option, Some, None, ok_or, Result, Ok, if◌then◌else◌}
+use Rattle.std.specs.Prelude.{ℕ, ◌+◌, nat_lt, List, [], ◌∷◌, ◌++◌, length, take, drop, Option, Some, None, ok_or}
+use Rattle.std.specs.Prelude.{Result, Ok, if◌then◌else◌}
 use Rattle.std.specs.Int.{w16, from_be_bytes}
 use Rattle.route_values.specs.declared.addr.Addr.{Addr}
 use Rattle.route_values.specs.declared.addr.Addr.TheVariants.{V4}
@@ -9,6 +10,7 @@ use Rattle.route_values.specs.declared.attrs.Origin.{Origin}
 use Rattle.route_values.specs.Caps.{Caps}
 use Rattle.route_values.specs.declared.key.Key.{Key}
 use Rattle.route_values.specs.declared.path.Segment.{Segment}
+use Rattle.update_grammar.specs.Codes.{code_origin, code_as_path, code_next_hop}
 use Rattle.update_grammar.specs.declared.effect.Attr.{Attr}
 use Rattle.update_grammar.specs.declared.effect.Effect.{Effect}
 use Rattle.update_grammar.specs.declared.effect.Reached.{Reached}
@@ -19,7 +21,8 @@ use Rattle.update_grammar.specs.declared.fault.UpdateFault.TheVariants as fault
 use Rattle.update_grammar.specs.Steps.{◌>>=◌, blamed}
 use Rattle.update_grammar.specs.ReadAttributes.{attrs_in}
 use Rattle.update_grammar.specs.ReadPrefixes.{keys_in}
-use Rattle.update_grammar.specs.Update.{said_first, as_origin, as_path, as_next_hop, as_reach, as_unreach, gathered, here_all, gone_all, unreached}
+use Rattle.update_grammar.specs.Update.{said_first, as_origin, as_path, as_next_hop, as_reach, as_unreach, gathered}
+use Rattle.update_grammar.specs.Update.{here_all, gone_all, unreached}
 
 -- a fault of attributes that stand so many bytes behind the front
 abbrev pub moved : ℕ → AttrFault → AttrFault
@@ -40,8 +43,8 @@ field_at bytes =
 -- ORIGIN and AS_PATH, which announcements need
 abbrev pub needed : List Attr → Result (Origin × List Segment) UpdateFault
 needed said = do
-  origin ← ok_or (said_first as_origin said) (fault.MissingAttr 1)
-  path ← ok_or (said_first as_path said) (fault.MissingAttr 2)
+  origin ← ok_or (said_first as_origin said) (fault.MissingAttr code_origin)
+  path ← ok_or (said_first as_path said) (fault.MissingAttr code_as_path)
   Ok (origin, path)
 
 -- announcements of keys with this next hop
@@ -59,7 +62,7 @@ abbrev pub announced_by : List Attr → List Key → Result (List Effect) Update
 announced_by said [] = Ok []
 announced_by said (key ∷ keys) = do
   both ← needed said
-  hop ← ok_or (said_first as_next_hop said) (fault.MissingAttr 3)
+  hop ← ok_or (said_first as_next_hop said) (fault.MissingAttr code_next_hop)
   Ok (here_with said (V4 hop) (key ∷ keys) both)
 
 -- the effects of withdrawn prefixes, attributes and announced prefixes, or the least code that is missing

@@ -1,6 +1,7 @@
--- The values of path attributes as they are read (RFC 4271, sections 4.3 and 6.3; RFC 6793; RFC 1997; RFC 4360; RFC 4456;
--- RFC 8092): what a value says, or what is wrong with it.
-use Rattle.std.specs.Prelude.{ℕ, ◌+◌, ◌*◌, ◌/◌, ◌%◌, ◌==◌, nat_lt, Bool, not, ◌&&◌, ◌||◌, List, [], ◌∷◌, length, map, take, drop, get_or, Result, Ok, Err, if◌then◌else◌}
+-- The values of path attributes as they are read (RFC 4271, sections 4.3 and 6.3; RFC 6793; RFC 1997; RFC 4360;
+-- RFC 4456; RFC 8092): what a value says, or what is wrong with it.
+use Rattle.std.specs.Prelude.{ℕ, ◌+◌, ◌*◌, ◌/◌, ◌%◌, ◌==◌, nat_lt, Bool, not, ◌&&◌, ◌||◌, List, [], ◌∷◌, length, map}
+use Rattle.std.specs.Prelude.{take, drop, get_or, Result, Ok, Err, if◌then◌else◌}
 use Rattle.std.specs.Int.{w32, from_be_bytes}
 use Rattle.std.specs.Simd.{first_chunks}
 use Rattle.route_values.specs.declared.attrs.Aggregator.{Aggregator}
@@ -8,6 +9,7 @@ use Rattle.route_values.specs.declared.attrs.Large.{Large}
 use Rattle.route_values.specs.declared.attrs.Origin.{Origin}
 use Rattle.route_values.specs.declared.attrs.Origin.TheVariants.{Igp, Egp, Incomplete}
 use Rattle.route_values.specs.declared.path.Segment.{Segment}
+use Rattle.update_grammar.specs.Codes.{number_len, aggregator_len, ext_len, large_len, set_type, sequence_type}
 use Rattle.update_grammar.specs.Steps.{◌>>=◌, each}
 
 -- its length isn't one that the attribute may have, or its parts don't fill it; or else it means nothing
@@ -39,22 +41,29 @@ unfoldable pub origin_in : List ℕ → Result Origin Wrong
 origin_in value = sized 1 (λ bytes. get_or bytes 0 0) value >>= origin_of
 
 unfoldable pub number_in : List ℕ → Result ℕ Wrong
-number_in value = sized 4 number_from value
+number_in value = sized number_len number_from value
+
+abbrev pub aggregator_from : List ℕ → Aggregator
+aggregator_from bytes = record { asn = number_from bytes; addr = number_from (drop number_len bytes) }
 
 unfoldable pub aggregator_in : List ℕ → Result Aggregator Wrong
-aggregator_in value = sized 8 (λ bytes. record { asn = number_from bytes; addr = number_from (drop 4 bytes) }) value
+aggregator_in value = sized aggregator_len aggregator_from value
 
 unfoldable pub numbers_in : List ℕ → Result (List ℕ) Wrong
-numbers_in value = listed 4 number_from value
+numbers_in value = listed number_len number_from value
 
 unfoldable pub exts_in : List ℕ → Result (List (List ℕ)) Wrong
-exts_in value = listed 8 (λ bytes. bytes) value
+exts_in value = listed ext_len (λ bytes. bytes) value
 
 abbrev pub large_from : List ℕ → Large
-large_from bytes = record { global = number_from bytes; first = number_from (drop 4 bytes); second = number_from (drop 8 bytes) }
+large_from bytes = record {
+  global = number_from bytes;
+  first = number_from (drop number_len bytes);
+  second = number_from (drop (2 * number_len) bytes);
+}
 
 unfoldable pub larges_in : List ℕ → Result (List Large) Wrong
-larges_in value = listed 12 large_from value
+larges_in value = listed large_len large_from value
 
 -- what stands in the place of a segment: a type, a count, and so many numbers
 pub record Part : Type 0 where
@@ -64,20 +73,21 @@ pub record Part : Type 0 where
 -- the part at the front, nothing more to know, and the bytes behind it
 unfoldable pub part_at : Unit {0} → List ℕ → Result (Part × Unit {0} × List ℕ) Wrong
 part_at known bytes =
-    let len = 4 * get_or bytes 1 0 in
+    let len = number_len * get_or bytes 1 0 in
     if nat_lt (length bytes) (2 + len) then Err BadLength else
-    Ok (record { kind = get_or bytes 0 0; numbers = items_from 4 number_from (take len (drop 2 bytes)) }, tt, drop len (drop 2 bytes))
+    let numbers = items_from number_len number_from (take len (drop 2 bytes)) in
+    Ok (record { kind = get_or bytes 0 0; numbers = numbers }, tt, drop len (drop 2 bytes))
 
 -- a part is a segment where its type is 1 or 2 and it has a number
 abbrev pub is_segment : Part → Bool
-is_segment part = (part.kind == 1 || part.kind == 2) && not (length part.numbers == 0)
+is_segment part = (part.kind == set_type || part.kind == sequence_type) && not (length part.numbers == 0)
 
 -- the segments that the parts are
 abbrev pub segments_of : List Part → Result (List Segment) Wrong
 segments_of [] = Ok []
 segments_of (part ∷ parts) = if is_segment part then (do
   others ← segments_of parts
-  Ok (record { set = part.kind == 1; numbers = part.numbers } ∷ others)) else Err BadValue
+  Ok (record { set = part.kind == set_type; numbers = part.numbers } ∷ others)) else Err BadValue
 
 -- parts have to fill the value before it is looked at what they are
 unfoldable pub path_in : List ℕ → Result (List Segment) Wrong

@@ -14,7 +14,8 @@ blamed say (Err d) = Err (say d)
 
 -- The items that stand one after another, up to n of them. A step takes what is known before an item and the bytes from
 -- there on, and gives the item, what is known behind it, and the bytes behind it.
-unfoldable pub each_of : {S X E : Type 0} → (S → List ℕ → Result (X × S × List ℕ) E) → ℕ → S → List ℕ → Result (List X) E
+unfoldable pub each_of : {S X E : Type 0} → (S → List ℕ → Result (X × S × List ℕ) E) → ℕ → S → List ℕ
+    → Result (List X) E
 each_of step zero known bytes = Ok []
 each_of step (suc n) known [] = Ok []
 each_of step (suc n) known (byte ∷ bytes) = do

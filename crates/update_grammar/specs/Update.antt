@@ -1,6 +1,7 @@
 -- The body of an UPDATE (RFC 4271, section 4.3): withdrawn prefixes and attributes, each behind its length, and then
 -- announced prefixes to the end.
-use Rattle.std.specs.Prelude.{ℕ, ◌≡◌, ◌^◌, ◌<◌, List, [], ◌∷◌, ◌++◌, length, map, Bool, true, false, Option, Some, None, unwrap_or}
+use Rattle.std.specs.Prelude.{ℕ, ◌≡◌, ◌^◌, ◌<◌, List, [], ◌∷◌, ◌++◌, length, map, Bool, true, false, Option, Some, None}
+use Rattle.std.specs.Prelude.{unwrap_or}
 use Rattle.route_values.specs.declared.addr.Addr.{Addr}
 use Rattle.route_values.specs.declared.addr.Addr.TheVariants.{V4}
 use Rattle.route_values.specs.declared.addr.Family.TheVariants.{Ipv4}
@@ -136,13 +137,15 @@ gone_all keys = map (λ key. Gone key) keys
 abbrev pub Announces : List Attr → List Key → List Effect → Type 0
 Announces said [] effects = effects ≡ []
 Announces said (k ∷ ks) effects =
-    (hop : ℕ) × (w : WireAttrs) × (said_first as_next_hop said ≡ Some hop) × Gathers said (V4 hop) w × (effects ≡ here_all w (k ∷ ks))
+    (hop : ℕ) × (w : WireAttrs) × (said_first as_next_hop said ≡ Some hop) × Gathers said (V4 hop) w
+    × (effects ≡ here_all w (k ∷ ks))
 
 -- what an MP_REACH_NLRI does, where there is one: it needs ORIGIN and AS_PATH, also for another session's family
 abbrev pub Reaches : List Attr → Option (Option Reached) → List Effect → Type 0
 Reaches said None effects = effects ≡ []
 Reaches said (Some None) effects = HasOriginAndPath said × (effects ≡ [])
-Reaches said (Some (Some reached)) effects = (w : WireAttrs) × Gathers said reached.hop w × (effects ≡ here_all w reached.keys)
+Reaches said (Some (Some reached)) effects = (w : WireAttrs) × Gathers said reached.hop w
+    × (effects ≡ here_all w reached.keys)
 
 -- the keys that an MP_UNREACH_NLRI withdraws, where there is one
 abbrev pub unreached : Option (Option (List Key)) → List Key

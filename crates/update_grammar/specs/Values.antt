@@ -7,6 +7,7 @@ use Rattle.route_values.specs.declared.attrs.Large.{Large}
 use Rattle.route_values.specs.declared.attrs.Origin.{Origin}
 use Rattle.route_values.specs.declared.attrs.Origin.TheVariants.{Igp, Egp, Incomplete}
 use Rattle.route_values.specs.declared.path.Segment.{Segment}
+use Rattle.update_grammar.specs.Codes.{set_type, sequence_type, ext_len, short_max}
 
 -- what four bytes can hold
 abbrev pub IsNumber : ℕ → Type 0
@@ -28,7 +29,7 @@ origin_number Incomplete = 2
 
 -- a segment: 1 for a set or 2 for a sequence, a count, and so many numbers
 abbrev pub segment_text : Segment → List ℕ
-segment_text s = (if s.set then 1 else 2) ∷ length s.numbers ∷ numbers_text s.numbers
+segment_text s = (if s.set then set_type else sequence_type) ∷ length s.numbers ∷ numbers_text s.numbers
 
 -- the segments end to end
 abbrev pub path_text : List Segment → List ℕ
@@ -37,7 +38,7 @@ path_text segments = flat_map segment_text segments
 -- a segment that has a text: from 1 to 255 numbers
 pub record IsSegment (s : Segment) : Type 0 where
   pub filled : 0 < length s.numbers
-  pub short : length s.numbers ≤ 255
+  pub short : length s.numbers ≤ short_max
   pub numbers : AllByRecursion IsNumber s.numbers
 
 -- an AS number and an IPv4 address
@@ -53,7 +54,7 @@ abbrev pub exts_text : List (List ℕ) → List ℕ
 exts_text exts = flat_map (λ ext. ext) exts
 
 abbrev pub IsExt : List ℕ → Type 0
-IsExt ext = length ext ≡ 8
+IsExt ext = length ext ≡ ext_len
 
 -- large communities of three numbers each
 abbrev pub large_text : Large → List ℕ

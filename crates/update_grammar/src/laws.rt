@@ -1,6 +1,10 @@
 //! The laws of the grammar.
 ghost use Rattle.route_values.specs.declared.addr.Family.{Family};
-ghost use Rattle.update_grammar.specs.Laws.{HereIsSpelled, GoneIsSpelled, EndIsSpelled, MarkersDiffer, HereIsNoMarker, GoneIsNoMarker, ReadAttrsAreSpelled, SpelledAttrsAreRead, ReadEffectsAreSpelled, SpelledEffectsAreRead, EffectsAreOne};
+ghost use Rattle.update_grammar.specs.Laws.{HereIsSpelled, GoneIsSpelled, EndIsSpelled};
+ghost use Rattle.update_grammar.specs.Laws.{MarkersDiffer, HereIsNoMarker, GoneIsNoMarker};
+ghost use Rattle.update_grammar.specs.Laws.{ReadAttrsAreSpelled, SpelledAttrsAreRead};
+ghost use Rattle.update_grammar.specs.Laws.{ReadEffectsAreSpelled, SpelledEffectsAreRead};
+ghost use Rattle.update_grammar.specs.Laws.{EffectsAreOne};
 
 /// What is written is spelled again as it was meant (RFC 4271, section 4.3; RFC 4760; RFC 7911, section 3).
 ///

@@ -34,8 +34,9 @@ pub fn attr_of(
     caps: &Caps,
 ) -> Result<Option<Attr>, AttrFault>
     requires { place + head_len attr.now.flags < 2 ^ 64 }
-    ensures exact { (before : List ℕ) → HasCodes codes.now before →
-        Gives (λ said. said) attr_blame result (attr_of caps.now (record { place = place; codes = before }) (raw_of attr.now)) }
+    ensures exact { (before : List ℕ) → HasCodes codes.now before
+        → Gives (λ said. said) attr_blame result
+        (attr_of caps.now (record { place = place; codes = before }) (raw_of attr.now)) }
     ensures within { IfErr result (λ fault. place_of fault ≤ place + head_len attr.now.flags) }
 {
     if !has_flags(attr.code, attr.flags) {

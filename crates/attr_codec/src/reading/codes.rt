@@ -12,7 +12,7 @@ use crate::codes::{
     NEXT_HOP, OPTIONAL, ORIGIN, ORIGINATOR_ID,
 };
 
-/// How many codes there are.
+// How many codes there are.
 const CODES: usize = 256;
 
 /// A set of codes. Each call but the first takes the same time, whatever the codes.
@@ -33,7 +33,8 @@ impl Codes {
 
     /// Whether a code is among them.
     pub fn has(&self, code: u8) -> bool
-        ensures { (codes : List ℕ) → HasCodes self.now codes → result ≡ list_any (λ other. other == code) codes }
+        ensures { (codes : List ℕ) → HasCodes self.now codes
+            → result ≡ list_any (λ other. other == code) codes }
     {
         self.marks[usize::from(code)]
     }

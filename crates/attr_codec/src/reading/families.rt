@@ -9,7 +9,8 @@
 //! An MP_UNREACH_NLRI has AFI, SAFI and prefixes alone.
 ghost use Rattle.std.specs.Prelude.{◌≡◌, option_and_then};
 ghost use Rattle.answers.specs.Gives.{Gives};
-ghost use Rattle.update_grammar.specs.ReadFamilies.{family_of_numbers, agreed, hop_in, keys_value, reached_in, reach_in, unreach_in};
+ghost use Rattle.update_grammar.specs.ReadFamilies.{family_of_numbers, agreed, hop_in, keys_value};
+ghost use Rattle.update_grammar.specs.ReadFamilies.{reached_in, reach_in, unreach_in};
 ghost use Rattle.attr_codec.specs.Faults.{value_blame};
 
 use super::prefixes::read_keys;

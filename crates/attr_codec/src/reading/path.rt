@@ -48,7 +48,8 @@ pub fn path_in(alloc: Global, value: &[u8]) -> Result<AsPath, ValueFault>
 // The part at the front and the bytes behind it.
 #[tactic(auto, unfolding(update_grammar::specs::ReadValues::part_at))]
 fn part_at(alloc: Global, bytes: &[u8]) -> Result<(RawSegment, &[u8]), ValueFault>
-    ensures { Gives (λ one. (part_of one.0, tt, one.1.now)) value_blame result (part_at tt bytes.now) }
+    ensures { Gives (λ one. (part_of one.0, tt, one.1.now)) value_blame result
+        (part_at tt bytes.now) }
 {
     let [kind, count, rest @ ..] = bytes else {
         return Err(ValueFault::BadLength);
@@ -67,7 +68,8 @@ fn part_at(alloc: Global, bytes: &[u8]) -> Result<(RawSegment, &[u8]), ValueFaul
 
 // Puts the segment that a part is at the end, or answers false where it is none.
 fn push_part(segments: &mut Vec<Segment>, part: RawSegment) -> Result<bool, NoMemory>
-    ensures { IfOk result (λ good. IsTold good segments.old.items (part_of part) segments.new.items) }
+    ensures { IfOk result (λ good.
+        IsTold good segments.old.items (part_of part) segments.new.items) }
 {
     let Some(segment) = segment_of(part) else {
         return Ok(false);

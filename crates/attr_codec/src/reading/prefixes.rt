@@ -6,7 +6,8 @@
 //! | 4 bytes, or none | 1 byte| as few bytes as hold them  |
 //! +------------------+-------+----------------------------+
 //! ```
-ghost use Rattle.std.specs.Prelude.{◌≡◌, ◌-◌, ◌*◌, ◌/◌, ◌^◌, ◌≤◌, List, Some, length, option_map, IfErr, IfOk, Ok};
+ghost use Rattle.std.specs.Prelude.{◌≡◌, ◌-◌, ◌*◌, ◌/◌, ◌^◌, ◌≤◌, List, Some, length, option_map};
+ghost use Rattle.std.specs.Prelude.{IfErr, IfOk, Ok};
 ghost use Rattle.answers.specs.Gives.{Gives};
 ghost use Rattle.route_values.specs.declared.key.Key.{Key};
 ghost use Rattle.route_values.specs.Addr.{bits_of};
@@ -26,10 +27,11 @@ use std::alloc::Global;
 /// before each prefix, else each identifier is 0. Bits past a prefix's count aren't looked at. The work grows with
 /// the number of bytes.
 pub fn read_keys(alloc: Global, bytes: &[u8], family: Family, path: bool) -> Result<Keys, KeysFault>
-    // What is read is spelled.
+    // What is read is spelled, and what is spelled is read, unless memory runs out.
     ensures found { IfOk result (λ keys. SpellsEach (SpellsKey path family) bytes.now keys) }
-    // What is spelled is read, unless memory runs out.
-    ensures only { (keys : List Key) → SpellsEach (SpellsKey path family) bytes.now keys → Gives (λ keys. keys) keys_blame result (Ok keys) }
+    ensures only { (keys : List Key) → SpellsEach (SpellsKey path family) bytes.now keys
+        → Gives (λ keys. keys) keys_blame result (Ok keys) }
+
     // Which prefix is at fault, and that it stands in the bytes.
     ensures exact { Gives (λ keys. keys) keys_blame result (keys_in path family bytes.now) }
     ensures within { IfErr result (λ fault. place_of_keys fault ≤ length bytes.now) }
@@ -126,7 +128,7 @@ fn addr_from(family: Family, bits: u8, field: &[u8]) -> Addr
 
 // A number whose last bits are made zero.
 fn without_last(number: u128, bits: u8) -> u128
-    requires { bits ≤ 128 }
+    requires { bits ≤ IPV6_BITS }
     ensures value { result ≡ number / 2 ^ bits * 2 ^ bits }
     ensures below { result ≤ number }
 {

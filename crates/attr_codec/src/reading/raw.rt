@@ -19,7 +19,8 @@ pub struct RawAttr<'a> {
 #[tactic(auto, unfolding(update_grammar::specs::ReadAttributes::raw_at))]
 pub fn raw_at(bytes: &[u8]) -> Option<(RawAttr<'_>, &[u8])>
     ensures value { option_map (λ one. (raw_of one.0, one.1.now)) result ≡ raw_at bytes.now }
-    ensures parts { IfSome result (λ one. head_len one.0.flags + length one.0.value.now + length one.1.now ≡ length bytes.now) }
+    ensures parts { IfSome result (λ one.
+        head_len one.0.flags + length one.0.value.now + length one.1.now ≡ length bytes.now) }
 {
     let [flags, code, rest @ ..] = bytes else {
         return None;

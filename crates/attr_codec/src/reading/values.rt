@@ -2,8 +2,11 @@
 //! RFC 8092).
 ghost use Rattle.std.specs.Prelude.{◌≡◌, IfOk, Some};
 ghost use Rattle.answers.specs.Gives.{Gives};
+ghost use Rattle.update_grammar.specs.Codes.{number_len, ext_len, large_len};
 ghost use Rattle.update_grammar.specs.ReadAttributes.{said_as};
-ghost use Rattle.update_grammar.specs.ReadValues.{sized, items_from, number_from, large_from, origin_in, number_in, aggregator_in, numbers_in, exts_in, larges_in};
+ghost use Rattle.update_grammar.specs.ReadValues.{sized, items_from, number_from, large_from};
+ghost use Rattle.update_grammar.specs.ReadValues.{origin_in, number_in, aggregator_in, numbers_in};
+ghost use Rattle.update_grammar.specs.ReadValues.{exts_in, larges_in};
 ghost use Rattle.attr_codec.specs.Faults.{value_blame};
 
 use crate::codes::{AGGREGATOR_LEN, EGP, EXT_LEN, IGP, INCOMPLETE, LARGE_LEN, NUMBER_LEN};
@@ -43,7 +46,8 @@ pub fn number_in(value: &[u8]) -> Result<u32, ValueFault>
 
 /// An ATOMIC_AGGREGATE, which has no bytes (RFC 4271, section 5.1.6).
 pub fn atomic_in(value: &[u8]) -> Result<Attr, ValueFault>
-    ensures { Gives (λ said. Some said) value_blame result (said_as (λ empty. Attr.Atomic) (sized 0 (λ bytes. bytes) value.now)) }
+    ensures { Gives (λ said. Some said) value_blame result
+        (said_as (λ empty. Attr.Atomic) (sized 0 (λ bytes. bytes) value.now)) }
 {
     if value.is_empty() {
         Ok(Attr::Atomic)
@@ -101,7 +105,7 @@ pub fn larges_in(alloc: Global, value: &[u8]) -> Result<Larges, ValueFault>
 
 /// The numbers of four bytes each that stand in the bytes.
 pub fn numbers_from(alloc: Global, bytes: &[u8]) -> Result<U32s, NoMemory>
-    ensures { IfOk result (λ numbers. numbers ≡ items_from 4 number_from bytes.now) }
+    ensures { IfOk result (λ numbers. numbers ≡ items_from number_len number_from bytes.now) }
 {
     let (chunks, _) = bytes.as_chunks::<NUMBER_LEN>();
     let mut numbers = Vec::with_capacity(alloc, chunks.len())?;
@@ -113,7 +117,7 @@ pub fn numbers_from(alloc: Global, bytes: &[u8]) -> Result<U32s, NoMemory>
 
 // The extended communities of eight bytes each that stand in the bytes.
 fn exts_from(alloc: Global, bytes: &[u8]) -> Result<Exts, NoMemory>
-    ensures { IfOk result (λ exts. exts ≡ items_from 8 (λ ext. ext) bytes.now) }
+    ensures { IfOk result (λ exts. exts ≡ items_from ext_len (λ ext. ext) bytes.now) }
 {
     let (chunks, _) = bytes.as_chunks::<EXT_LEN>();
     Ok(Items::from_vec(Vec::from_slice(alloc, chunks)?))
@@ -121,7 +125,7 @@ fn exts_from(alloc: Global, bytes: &[u8]) -> Result<Exts, NoMemory>
 
 // The large communities of twelve bytes each that stand in the bytes.
 fn larges_from(alloc: Global, bytes: &[u8]) -> Result<Larges, NoMemory>
-    ensures { IfOk result (λ larges. larges ≡ items_from 12 large_from bytes.now) }
+    ensures { IfOk result (λ larges. larges ≡ items_from large_len large_from bytes.now) }
 {
     let (chunks, _) = bytes.as_chunks::<LARGE_LEN>();
     let mut larges = Larges::new(alloc);

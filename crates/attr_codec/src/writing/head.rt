@@ -1,10 +1,11 @@
 //! Attributes with a short value, and what stands before a value.
 ghost use Rattle.std.specs.Prelude.{◌≡◌, ◌+◌, ◌^◌, ◌<◌, ◌≤◌, length};
+ghost use Rattle.update_grammar.specs.Codes.{short_max};
 ghost use Rattle.update_grammar.specs.Attributes.{raw_head, raw_text};
 ghost use Rattle.update_grammar.specs.Values.{number_text};
 ghost use Rattle.update_grammar.specs.Written.{flags_for, raw, raw_if};
 ghost use Rattle.attr_codec.specs.Buffer.{HasRoom, Appended};
-ghost use Rattle.attr_codec.specs.Groups.{raws_text};
+ghost use Rattle.attr_codec.specs.Groups.{number_attr};
 ghost use Rattle.attr_codec.specs.Kind.{flags_of};
 ghost use Rattle.attr_codec.specs.Sizes.{head_size};
 
@@ -28,7 +29,7 @@ pub fn put_head(out: &mut Message, kind: Kind, code: u8, len: usize)
 
 /// Puts an attribute whose value has at most 255 bytes.
 pub fn put_plain(out: &mut Message, kind: Kind, code: u8, value: &[u8])
-    requires small { length value.now ≤ 255 }
+    requires small { length value.now ≤ short_max }
     requires fits { HasRoom out.old (length (raw_text (raw (flags_of kind) code value.now))) }
     ensures { Appended out.old out.new (raw_text (raw (flags_of kind) code value.now)) }
 {
@@ -38,8 +39,8 @@ pub fn put_plain(out: &mut Message, kind: Kind, code: u8, value: &[u8])
 
 /// Puts an attribute with a number in four bytes, where there is one.
 pub fn put_number(out: &mut Message, kind: Kind, code: u8, number: Option<u32>)
-    requires { HasRoom out.old (length (raws_text (raw_if number_text (flags_of kind) code number))) }
-    ensures { Appended out.old out.new (raws_text (raw_if number_text (flags_of kind) code number)) }
+    requires { HasRoom out.old (length (number_attr kind code number)) }
+    ensures { Appended out.old out.new (number_attr kind code number) }
 {
     if let Some(number) = number {
         put_plain(out, kind, code, &u32_bytes(number));

@@ -1,8 +1,10 @@
 //! How many bytes path attributes take, before any is written.
 ghost use Rattle.std.specs.Prelude.{◌≡◌, ◌+◌, ◌*◌, ◌-◌, ◌^◌, ◌<◌, ◌≤◌, [], min, is_some, length};
+ghost use Rattle.update_grammar.specs.Codes.{short_max, ext_len};
 ghost use Rattle.update_grammar.specs.Values.{exts_text};
 ghost use Rattle.update_grammar.specs.Written.{attributes_text};
-ghost use Rattle.attr_codec.specs.Sizes.{IsShort, attr_size, size_if, list_size, segment_size, path_size, fixed_size, attributes_size, hop_size};
+ghost use Rattle.attr_codec.specs.Sizes.{IsShort, attr_size, size_if, list_size, segment_size};
+ghost use Rattle.attr_codec.specs.Sizes.{path_size, fixed_size, attributes_size, hop_size};
 
 use crate::codes::{
     AGGREGATOR_LEN, EXT_LEN, EXTENDED_HEAD_LEN, HEAD_LEN, IPV6_HOP_LEN, LARGE_LEN, NUMBER_LEN,
@@ -10,7 +12,7 @@ use crate::codes::{
 };
 use route_values::{Addr, AsPath, Family, Segment, WireAttrs};
 
-/// ORIGIN, whose value is one byte.
+// ORIGIN, whose value is one byte.
 const ORIGIN_LEN: usize = HEAD_LEN + 1;
 
 /// The length of the attributes of an announcement, without prefixes of IPv6, in bytes: 2^64 - 1 stands for any
@@ -77,7 +79,7 @@ fn hop_len(family: Family, hop: Addr) -> usize
 
 // An attribute whose value has so many bytes, where it stands.
 fn len_if(stands: bool, len: usize) -> usize
-    requires { len ≤ 255 }
+    requires { len ≤ short_max }
     ensures { result ≡ size_if stands len }
 {
     if stands { HEAD_LEN + len } else { 0 }
@@ -92,8 +94,8 @@ fn path_attr_len(path: &AsPath) -> usize
 
 // EXTENDED COMMUNITIES. Each of them has eight bytes.
 fn exts_len(exts: &[[u8; 8]]) -> usize
-    ensures value { result ≡ min (list_size (length exts.now) 8) (2 ^ 64 - 1) }
-    ensures eight { length (exts_text exts.now) ≡ length exts.now * 8 }
+    ensures value { result ≡ min (list_size (length exts.now) ext_len) (2 ^ 64 - 1) }
+    ensures eight { length (exts_text exts.now) ≡ length exts.now * ext_len }
 {
     list_len(exts.len(), EXT_LEN)
 }

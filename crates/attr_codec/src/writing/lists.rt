@@ -1,10 +1,11 @@
 //! Attributes that are lists of values of one length.
 ghost use Rattle.std.specs.Prelude.{◌≤◌, length};
+ghost use Rattle.update_grammar.specs.Codes.{code_extended, code_large, large_len};
 ghost use Rattle.update_grammar.specs.Attributes.{optional_transitive};
 ghost use Rattle.update_grammar.specs.Values.{numbers_text, exts_text, large_text, larges_text};
 ghost use Rattle.update_grammar.specs.Written.{raw_some};
-ghost use Rattle.attr_codec.specs.Buffer.{HasRoom, Appended};
-ghost use Rattle.attr_codec.specs.Groups.{raws_text};
+ghost use Rattle.attr_codec.specs.Buffer.{HasRoom, Appended, max_message};
+ghost use Rattle.attr_codec.specs.Groups.{numbers_attr, exts_attr, larges_attr};
 ghost use Rattle.attr_codec.specs.Kind.{flags_of};
 
 use super::head::put_head;
@@ -14,9 +15,9 @@ use route_values::Large;
 
 /// Puts a list of numbers, unless it is empty.
 pub fn put_u32s(out: &mut Message, kind: Kind, code: u8, numbers: &[u32])
-    requires room { out.old.room ≤ 65535 }
-    requires fits { HasRoom out.old (length (raws_text (raw_some numbers_text (flags_of kind) code numbers.now))) }
-    ensures { Appended out.old out.new (raws_text (raw_some numbers_text (flags_of kind) code numbers.now)) }
+    requires room { out.old.room ≤ max_message }
+    requires fits { HasRoom out.old (length (numbers_attr kind code numbers.now)) }
+    ensures { Appended out.old out.new (numbers_attr kind code numbers.now) }
 {
     if numbers.is_empty() {
         return;
@@ -27,9 +28,9 @@ pub fn put_u32s(out: &mut Message, kind: Kind, code: u8, numbers: &[u32])
 
 /// Puts EXTENDED COMMUNITIES, unless there is none.
 pub fn put_exts(out: &mut Message, exts: &[[u8; 8]])
-    requires room { out.old.room ≤ 65535 }
-    requires fits { HasRoom out.old (length (raws_text (raw_some exts_text optional_transitive 16 exts.now))) }
-    ensures { Appended out.old out.new (raws_text (raw_some exts_text optional_transitive 16 exts.now)) }
+    requires room { out.old.room ≤ max_message }
+    requires fits { HasRoom out.old (length (exts_attr exts.now)) }
+    ensures { Appended out.old out.new (exts_attr exts.now) }
 {
     if exts.is_empty() {
         return;
@@ -45,9 +46,9 @@ pub fn put_exts(out: &mut Message, exts: &[[u8; 8]])
 
 /// Puts LARGE_COMMUNITY, unless there is none.
 pub fn put_larges(out: &mut Message, larges: &[Large])
-    requires room { out.old.room ≤ 65535 }
-    requires fits { HasRoom out.old (length (raws_text (raw_some larges_text optional_transitive 32 larges.now))) }
-    ensures { Appended out.old out.new (raws_text (raw_some larges_text optional_transitive 32 larges.now)) }
+    requires room { out.old.room ≤ max_message }
+    requires fits { HasRoom out.old (length (larges_attr larges.now)) }
+    ensures { Appended out.old out.new (larges_attr larges.now) }
 {
     if larges.is_empty() {
         return;
@@ -90,7 +91,7 @@ fn put_large_values(out: &mut Message, larges: &[Large])
 }
 
 fn put_large(out: &mut Message, large: &Large)
-    requires { HasRoom out.old 12 }
+    requires { HasRoom out.old large_len }
     ensures { Appended out.old out.new (large_text large.now) }
 {
     out.append_u32(large.global);

@@ -1,9 +1,11 @@
 //! AS_PATH.
 ghost use Rattle.std.specs.Prelude.{◌≤◌, All, length};
+ghost use Rattle.update_grammar.specs.Codes.{code_as_path};
 ghost use Rattle.update_grammar.specs.Attributes.{raw_text, transitive};
 ghost use Rattle.update_grammar.specs.Values.{path_text, segment_text};
 ghost use Rattle.update_grammar.specs.Written.{raw};
-ghost use Rattle.attr_codec.specs.Buffer.{HasRoom, Appended};
+ghost use Rattle.attr_codec.specs.Buffer.{HasRoom, Appended, max_message};
+ghost use Rattle.attr_codec.specs.Groups.{path_attr};
 ghost use Rattle.attr_codec.specs.Sizes.{IsShort};
 
 use super::head::put_head;
@@ -16,9 +18,9 @@ use route_values::{AsPath, Segment};
 /// Puts AS_PATH.
 pub fn put_path(out: &mut Message, path: &AsPath)
     requires short { All IsShort path.now }
-    requires room { out.old.room ≤ 65535 }
-    requires fits { HasRoom out.old (length (raw_text (raw transitive 2 (path_text path.now)))) }
-    ensures { Appended out.old out.new (raw_text (raw transitive 2 (path_text path.now))) }
+    requires room { out.old.room ≤ max_message }
+    requires fits { HasRoom out.old (length (path_attr path.now)) }
+    ensures { Appended out.old out.new (path_attr path.now) }
 {
     put_head(out, Kind::WellKnown, AS_PATH, path_len(path));
     put_segments(out, path.segments());

@@ -20,7 +20,8 @@ pub returns-in_err-said-clause-exact : goal.returns-in_err-said-clause-exact
 returns-in_err-said-clause-exact c =
     let known = c.attrs.invariant.so_far in
     let e = err_from_is_err_and c.from_residual.result c.from_residual.ensures.1 in
-    rw (e.1, e.2) (attrs_fail _ _ _ _ _ _ _ _ _ c.in-Some.ensures.value (c.in_err-said.ensures.exact known.0 known.1) known.2)
+    rw (e.1, e.2) (attrs_fail _ _ _ _ _ _ _ _ _ c.in-Some.ensures.value (c.in_err-said.ensures.exact known.0 known.1)
+    known.2)
 
 pub attrs-preserved : goal.attrs-preserved
 attrs-preserved c =
@@ -28,8 +29,14 @@ attrs-preserved c =
     let less = attrs_shorter _ _ _ c.in-Some.ensures.value in
     record {
       within = omega (arith, less, c.attrs.invariant.within);
-      so_far = (c.in-Some.attr.code ∷ known.0, c.add.ensures known.0 known.1, attrs_go_on _ _ _ _ _ _ _ _ _ _ c.attrs.invariant.within c.in-Some.ensures.value (c.in_ok-said.ensures.exact known.0 known.1) c.in_ok-push_said.ensures known.2);
+      so_far = (
+        c.in-Some.attr.code ∷ known.0,
+        c.add.ensures known.0 known.1,
+        attrs_go_on _ _ _ _ _ _ _ _ _ _ c.attrs.invariant.within c.in-Some.ensures.value
+            (c.in_ok-said.ensures.exact known.0 known.1) c.in_ok-push_said.ensures known.2,
+      );
     }
 
 pub returns-clause-exact : goal.returns-clause-exact
-returns-clause-exact c = attrs_end _ _ _ _ _ _ (eqb-true _ _ (sym c.is_empty.ensures ∙ c.attrs-test.false)) c.attrs.invariant.so_far.2
+returns-clause-exact c = attrs_end _ _ _ _ _ _ (eqb-true _ _ (sym c.is_empty.ensures ∙ c.attrs-test.false))
+    c.attrs.invariant.so_far.2

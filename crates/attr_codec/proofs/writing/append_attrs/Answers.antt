@@ -16,4 +16,5 @@ put_last-requires-clause-fits c = omega (arith, length-groups c.args.family c.ar
 
 pub returns : goal.returns
 returns c =
-    groups_appended c.args.family c.args.attrs.now _ _ _ _ _ c.requires.hop c.put_first.ensures c.put_second.ensures c.put_third.ensures c.put_last.ensures
+    groups_appended c.args.family c.args.attrs.now _ _ _ _ _ c.requires.hop c.put_first.ensures c.put_second.ensures
+    c.put_third.ensures c.put_last.ensures

@@ -1,11 +1,15 @@
 use Rattle.std.proofs.Common.{◌<◌, length, sym, ◌∙◌, arith}
 use Rattle.std.proofs.lemmas.Bool.{eqb-true, eqb-false}
 use Rattle.std.proofs.lemmas.Result.{err_from_is_err_and}
-use Rattle.attr_codec.proofs.PathLemmas.{path_first, path_goes_on, path_shorter, path_stops, path_whole, path_bad, filled_more, filled_none}
+use Rattle.attr_codec.proofs.PathLemmas.{path_first, path_goes_on, path_shorter, path_stops, path_whole, path_bad}
+use Rattle.attr_codec.proofs.PathLemmas.{filled_more, filled_none}
 use Rattle.attr_codec.proofs.reading.path.path_in.Goals as goal
 
 pub parts-init : goal.parts-init
-parts-init c = record { filled = filled_none _ c.new-segments.ensures.items; so_far = path_first _ _ c.new-segments.ensures.items }
+parts-init c = record {
+  filled = filled_none _ c.new-segments.ensures.items;
+  so_far = path_first _ _ c.new-segments.ensures.items;
+}
 
 pub returns-in_err-part : goal.returns-in_err-part
 returns-in_err-part c =
@@ -29,7 +33,11 @@ parts-preserved c = record {
 }
 
 pub returns-then-not-good : goal.returns-then-not-good
-returns-then-not-good c = path_bad _ _ _ _ (eqb-true _ _ (sym c.is_empty.ensures ∙ c.parts-test.false)) c.if-not-good.true c.parts.invariant.so_far
+returns-then-not-good c = path_bad _ _ _ _ (eqb-true _ _ (sym c.is_empty.ensures ∙ c.parts-test.false))
+    c.if-not-good.true c.parts.invariant.so_far
 
 pub returns : goal.returns
-returns c = let k = c.from_segments.ensures in let w = path_whole _ _ _ _ (eqb-true _ _ (sym c.is_empty.ensures ∙ c.parts-test.false)) c.if-not-good.false c.parts.invariant.so_far in rw k w
+returns c =
+    let none = eqb-true _ _ (sym c.is_empty.ensures ∙ c.parts-test.false) in
+    let whole = path_whole _ _ _ _ none c.if-not-good.false c.parts.invariant.so_far in
+    rw c.from_segments.ensures whole

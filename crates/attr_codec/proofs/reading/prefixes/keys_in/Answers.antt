@@ -20,8 +20,10 @@ keys-preserved c =
     let less = keys_shorter _ _ _ _ _ c.in-Some.ensures in
     record {
       within = omega (arith, less, c.keys.invariant.within);
-      so_far = keys_go_on _ _ _ _ _ _ _ _ _ c.keys.invariant.within c.in-Some.ensures c.in_ok-push.ensures.ok c.keys.invariant.so_far;
+      so_far = keys_go_on _ _ _ _ _ _ _ _ _ c.keys.invariant.within c.in-Some.ensures c.in_ok-push.ensures.ok
+          c.keys.invariant.so_far;
     }
 
 pub returns-clause-exact : goal.returns-clause-exact
-returns-clause-exact c = keys_end _ _ _ _ _ _ (eqb-true _ _ (sym c.is_empty.ensures ∙ c.keys-test.false)) c.keys.invariant.so_far
+returns-clause-exact c = keys_end _ _ _ _ _ _ (eqb-true _ _ (sym c.is_empty.ensures ∙ c.keys-test.false))
+    c.keys.invariant.so_far
