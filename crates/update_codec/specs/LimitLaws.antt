@@ -1,4 +1,4 @@
--- Routes within the limits fit a message of 4,096 bytes, the greatest that every session takes (RFC 4271, section 4.1).
+-- Routes within the limits fit a message of 4,096 bytes, for which every session has room (RFC 4271, section 4.1).
 use Rattle.std.specs.Prelude.{ℕ, ◌≡◌, ◌≤◌, [], ◌∷◌, length}
 use Rattle.route_values.specs.declared.addr.Family.{Family}
 use Rattle.route_values.specs.declared.addr.Family.TheVariants.{Ipv4, Ipv6}

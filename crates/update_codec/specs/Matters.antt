@@ -12,6 +12,7 @@ use Rattle.update_grammar.specs.declared.effect.Effect.{Effect}
 use Rattle.update_grammar.specs.declared.effect.Reached.{Reached}
 use Rattle.update_grammar.specs.declared.fault.UpdateFault.{UpdateFault}
 use Rattle.update_grammar.specs.declared.fault.UpdateFault.TheVariants as fault
+use Rattle.update_grammar.specs.Codes.{code_origin, code_as_path, code_next_hop}
 use Rattle.update_grammar.specs.Steps.{◌>>=◌}
 use Rattle.update_grammar.specs.Update.{here_all, said_first, as_origin, as_path, as_next_hop, as_med, as_local_pref}
 use Rattle.update_grammar.specs.Update.{as_atomic, as_aggregator, as_communities, as_originator, as_clusters}
@@ -61,8 +62,8 @@ with_attr (says.Large larges) t = record t { matters = record t.matters { large 
 -- ORIGIN and AS_PATH, which announcements need
 abbrev pub needed_in : Matters → Result (Origin × List Segment) UpdateFault
 needed_in m = do
-  origin ← ok_or m.origin (fault.MissingAttr 1)
-  path ← ok_or m.path (fault.MissingAttr 2)
+  origin ← ok_or m.origin (fault.MissingAttr code_origin)
+  path ← ok_or m.path (fault.MissingAttr code_as_path)
   Ok (origin, path)
 
 -- an announcement's attributes, of which next hop, origin and path are given
@@ -96,7 +97,7 @@ abbrev pub announced_from : Matters → List Key → Result (List Effect) Update
 announced_from m [] = Ok []
 announced_from m (key ∷ keys) = do
   both ← needed_in m
-  hop ← ok_or m.next_hop (fault.MissingAttr 3)
+  hop ← ok_or m.next_hop (fault.MissingAttr code_next_hop)
   Ok (here_in m (V4 hop) (key ∷ keys) both)
 
 -- both, the MP_REACH_NLRI first

@@ -10,9 +10,9 @@ ghost use Rattle.std.specs.Prelude.{ℕ, ◌≡◌, ◌+◌, ◌-◌, ◌<◌, �
 ghost use Rattle.update_grammar.specs.Attributes.{Raw, IsRaw, raw_head, raw_text, optional};
 ghost use Rattle.update_grammar.specs.Prefixes.{key_text};
 ghost use Rattle.update_grammar.specs.Written.{flags_for, raw};
-ghost use Rattle.attr_codec.specs.Buffer.{HasRoom};
-ghost use Rattle.attr_codec.specs.Sizes.{head_size};
-ghost use Rattle.update_codec.specs.Sizes.{passes, short_attribute, attribute_growth};
+ghost use Rattle.attr_codec.specs.Buffer.{HasRoom, max_message};
+ghost use Rattle.attr_codec.specs.Sizes.{short_head, long_head, head_size};
+ghost use Rattle.update_codec.specs.Sizes.{longest_key, passes, short_attribute, attribute_growth};
 
 use super::key::{insert_key, key_len};
 use attr_codec::Message;
@@ -42,10 +42,10 @@ pub struct Place {
 
 /// How many bytes the attribute at the front has with its flags, its code and its length.
 pub fn attribute_len(bytes: &[u8]) -> usize
-    requires { 4 ≤ length bytes.now }
+    requires { long_head ≤ length bytes.now }
     ensures value { (a : Raw) → (rest : List ℕ) → IsRaw a → bytes.now ≡ raw_text a ++ rest
         → result ≡ length (raw_text a) }
-    ensures some { 3 ≤ result }
+    ensures some { short_head ≤ result }
 {
     if bytes[FLAGS] & EXTENDED_LENGTH == 0 {
         HEAD_LEN + usize::from(bytes[LEN_OFFSET])
@@ -56,8 +56,8 @@ pub fn attribute_len(bytes: &[u8]) -> usize
 
 /// By how many bytes an attribute of so many grows with a prefix of so many.
 pub fn growth(len: usize, more: usize) -> usize
-    requires small { len ≤ 65535 }
-    requires short { more ≤ 21 }
+    requires small { len ≤ max_message }
+    requires short { more ≤ longest_key }
     ensures { result ≡ attribute_growth len more }
 {
     if outgrows(len, more) { more + 1 } else { more }
@@ -66,9 +66,9 @@ pub fn growth(len: usize, more: usize) -> usize
 /// Puts a prefix at the end of an optional attribute, and makes its length right: this has two bytes exactly where the
 /// value passes 255 bytes. The lengths in front of the attributes stay as they are.
 pub fn put_last(out: &mut Message, place: Place, code: u8, key: &Key, path: bool)
-    requires some { place.start + 3 ≤ place.end }
+    requires some { place.start + short_head ≤ place.end }
     requires within { place.end ≤ length out.old.bytes }
-    requires room { out.old.room ≤ 65535 }
+    requires room { out.old.room ≤ max_message }
     requires fits { HasRoom out.old
         (attribute_growth (place.end - place.start) (length (key_text path key.now))) }
     ensures bytes { (before value after : List ℕ) → length before ≡ place.start
@@ -91,8 +91,8 @@ pub fn put_last(out: &mut Message, place: Place, code: u8, key: &Key, path: bool
 
 // Whether the value of an attribute of so many bytes passes 255 bytes with a prefix of so many.
 fn outgrows(len: usize, more: usize) -> bool
-    requires small { len ≤ 65535 }
-    requires short { more ≤ 21 }
+    requires small { len ≤ max_message }
+    requires short { more ≤ longest_key }
     ensures { result ≡ passes short_attribute len more }
 {
     len <= SHORT_END && len + more > SHORT_END
@@ -113,9 +113,9 @@ fn widen(out: &mut Message, start: usize)
 
 // Writes flags, code and length of an attribute that has so many bytes with them.
 fn put_head(out: &mut Message, start: usize, code: u8, len: usize)
-    requires some { 3 ≤ len }
+    requires some { short_head ≤ len }
     requires within { start + len ≤ length out.old.bytes }
-    requires small { length out.old.bytes ≤ 65535 }
+    requires small { length out.old.bytes ≤ max_message }
     ensures bytes { (before head rest : List ℕ) → (value_len : ℕ) → length before ≡ start
         → length head ≡ head_size value_len → len ≡ head_size value_len + value_len
         → out.old.bytes ≡ before ++ (head ++ rest)

@@ -8,9 +8,11 @@
 //! ```
 ghost use Rattle.std.specs.Prelude.{ℕ, ◌≡◌, ◌+◌, ◌≤◌, ◌∷◌, [], ◌++◌, List, length};
 ghost use Rattle.std.specs.Int.{w16, to_be_bytes};
+ghost use Rattle.update_grammar.specs.Codes.{header_len, update_type};
 ghost use Rattle.update_grammar.specs.Update.{body};
 ghost use Rattle.update_grammar.specs.Written.{header, message};
-ghost use Rattle.attr_codec.specs.Buffer.{HasRoom, Appended};
+ghost use Rattle.attr_codec.specs.Buffer.{HasRoom, Appended, max_message};
+ghost use Rattle.update_codec.specs.Sizes.{frame_len};
 ghost use Rattle.update_codec.specs.Unsealed.{unsealed};
 
 use attr_codec::Message;
@@ -37,9 +39,10 @@ pub const FRAME_LEN: usize = 23;
 
 /// Puts all that stands before attributes of so many bytes, where no prefix stands behind them.
 pub fn put_frame(out: &mut Message, len: usize)
-    requires small { 23 + len ≤ 65535 }
-    requires fits { HasRoom out.old 23 }
-    ensures { Appended out.old out.new (header (23 + len) 2 ++ (0 ∷ 0 ∷ to_be_bytes w16 len)) }
+    requires small { frame_len + len ≤ max_message }
+    requires fits { HasRoom out.old frame_len }
+    ensures { Appended out.old out.new
+        (header (frame_len + len) update_type ++ (0 ∷ 0 ∷ to_be_bytes w16 len)) }
 {
     put_header(out, (FRAME_LEN + len) as u16);
     out.append(&NO_WITHDRAWN);
@@ -48,10 +51,10 @@ pub fn put_frame(out: &mut Message, len: usize)
 
 /// Makes the lengths of the attributes and of the message right, where no prefix stands before or behind them.
 pub fn close_attributes(out: &mut Message)
-    requires { 23 ≤ length out.old.bytes }
+    requires { frame_len ≤ length out.old.bytes }
     ensures bytes { (total field : ℕ) → (attributes : List ℕ)
         → out.old.bytes ≡ unsealed total field attributes
-        → out.new.bytes ≡ message 2 (body [] attributes []) }
+        → out.new.bytes ≡ message update_type (body [] attributes []) }
     ensures len { length out.new.bytes ≡ length out.old.bytes }
     ensures room { out.new.room ≡ out.old.room }
 {
@@ -61,8 +64,8 @@ pub fn close_attributes(out: &mut Message)
 }
 
 fn put_header(out: &mut Message, len: u16)
-    requires { HasRoom out.old 19 }
-    ensures { Appended out.old out.new (header len 2) }
+    requires { HasRoom out.old header_len }
+    ensures { Appended out.old out.new (header len update_type) }
 {
     out.append(&MARKER);
     out.append_u16(len);

@@ -3,6 +3,7 @@ ghost use Rattle.std.specs.Prelude.{ℕ, ◌≡◌, ◌+◌, ◌≤◌, [], ◌+
 ghost use Rattle.std.specs.Int.{w32, to_be_bytes};
 ghost use Rattle.update_grammar.specs.Prefixes.{bytes_for, key_text, block_text};
 ghost use Rattle.attr_codec.specs.Buffer.{HasRoom, Appended};
+ghost use Rattle.update_codec.specs.Sizes.{longest_key};
 
 use attr_codec::Message;
 use attr_codec::codes::{BYTE_BITS, ID_LEN};
@@ -12,7 +13,7 @@ use route_values::{Addr, Key, Prefix};
 /// How many bytes a prefix takes: its identifier, a bit count, and the fewest bytes that hold so many bits.
 pub fn key_len(key: &Key, path: bool) -> usize
     ensures value { result ≡ length (key_text path key.now) }
-    ensures small { result ≤ 21 }
+    ensures small { result ≤ longest_key }
 {
     let id_len = if path { ID_LEN } else { 0 };
     id_len + block_len(&key.prefix)

@@ -9,7 +9,7 @@ ghost use Rattle.update_grammar.specs.Written.{written, IsSendable};
 ghost use Rattle.attr_codec.specs.Buffer.{HasRoom, Appended};
 ghost use Rattle.attr_codec.specs.Sizes.{IsShort, attributes_size};
 ghost use Rattle.update_codec.specs.Open.{IsOpenHere, IsOpenGone};
-ghost use Rattle.update_codec.specs.Sizes.{empty_size};
+ghost use Rattle.update_codec.specs.Sizes.{least_room, frame_len, empty_size};
 
 use super::frame::{FRAME_LEN, put_frame};
 use attr_codec::{Message, append_attrs, append_unreach, attrs_len};
@@ -22,19 +22,19 @@ const UNREACH_LEN: usize = 6;
 /// for IPv4 behind the attributes. Answers false, with `out` as it was, exactly where it doesn't fit.
 pub fn open_here(out: &mut Message, attrs: &WireAttrs, family: Family) -> bool
     requires empty { out.old.bytes ≡ [] }
-    requires room { 4096 ≤ out.old.room }
+    requires room { least_room ≤ out.old.room }
     requires hop { family_of attrs.now.hop ≡ family }
     requires short { All IsShort attrs.now.path }
 
     // It fits exactly where the message has no more bytes than the room, so it does within the limits of a route.
     ensures fits { (caps : Caps) →
         IsTrue result ↔ (length (written caps (head.Here family attrs.now) []) ≤ out.old.room) }
-    ensures size { IsTrue result ↔ (23 + attributes_size family attrs.now ≤ out.old.room) }
+    ensures size { IsTrue result ↔ (frame_len + attributes_size family attrs.now ≤ out.old.room) }
     ensures within { IsSendable family attrs.now → IsWithinLimits (counts_sent attrs.now)
         → IsTrue result }
 
     // What is left where it fits, and where it doesn't.
-    ensures len { OnTrue result (length out.new.bytes ≡ 23 + attributes_size family attrs.now) }
+    ensures len { OnTrue result (length out.new.bytes ≡ frame_len + attributes_size family attrs.now) }
     ensures ok { (caps : Caps) →
         OnTrue result (Appended out.old out.new (written caps (head.Here family attrs.now) [])) }
     ensures open { (caps : Caps) → OnTrue result (IsOpenHere caps family out.new.bytes) }
@@ -53,7 +53,7 @@ pub fn open_here(out: &mut Message, attrs: &WireAttrs, family: Family) -> bool
 /// family may follow.
 pub fn open_gone(out: &mut Message, family: Family)
     requires empty { out.old.bytes ≡ [] }
-    requires room { 4096 ≤ out.old.room }
+    requires room { least_room ≤ out.old.room }
     ensures ok { (caps : Caps) → Appended out.old out.new (written caps (head.Gone family) []) }
     ensures open { (caps : Caps) → IsOpenGone caps family out.new.bytes }
 {

@@ -11,12 +11,15 @@ ghost use Rattle.std.specs.Bool.{OnTrue, OnFalse};
 ghost use Rattle.route_values.specs.declared.addr.Family.TheVariants.{Ipv6};
 ghost use Rattle.route_values.specs.Key.{family_of_key};
 ghost use Rattle.update_grammar.specs.Attributes.{Raw, IsRaw, raw_text, optional};
+ghost use Rattle.update_grammar.specs.Codes.{code_reach};
 ghost use Rattle.update_grammar.specs.Prefixes.{key_text};
 ghost use Rattle.update_grammar.specs.Written.{raw};
 ghost use Rattle.attr_codec.specs.Buffer.{HasRoom};
 ghost use Rattle.attr_codec.specs.Groups.{raws_text};
+ghost use Rattle.attr_codec.specs.Sizes.{short_head};
 ghost use Rattle.update_codec.specs.Open.{IsOpenHere, AddsHere, TellsHereFits};
 ghost use Rattle.update_codec.specs.Reach.{HasReach};
+ghost use Rattle.update_codec.specs.Sizes.{frame_len};
 
 use super::attribute::{CODE, Place, attribute_len, growth, put_last};
 use super::frame::{FRAME_LEN, close_attributes};
@@ -60,12 +63,12 @@ pub fn put_reach(out: &mut Message, caps: &Caps, key: &Key) -> bool
 
 // Where the MP_REACH_NLRI of a message stands.
 fn reach_place(bytes: &[u8]) -> Place
-    requires { HasReach (drop 23 bytes.now) }
-    ensures start { (has : HasReach (drop 23 bytes.now))
-        → result.start ≡ 23 + length (raws_text has.raws) }
-    ensures end { (has : HasReach (drop 23 bytes.now))
-        → result.end ≡ result.start + length (raw_text (raw optional 14 has.value)) }
-    ensures some { result.start + 3 ≤ result.end }
+    requires { HasReach (drop frame_len bytes.now) }
+    ensures start { (has : HasReach (drop frame_len bytes.now))
+        → result.start ≡ frame_len + length (raws_text has.raws) }
+    ensures end { (has : HasReach (drop frame_len bytes.now))
+        → result.end ≡ result.start + length (raw_text (raw optional code_reach has.value)) }
+    ensures some { result.start + short_head ≤ result.end }
     ensures within { result.end ≤ length bytes.now }
 {
     let (_, mut rest) = bytes.split_at(FRAME_LEN);

@@ -13,12 +13,13 @@ ghost use Rattle.std.specs.Prelude.{ℕ, ◌≡◌, ◌+◌, ◌≤◌, ◌↔�
 ghost use Rattle.std.specs.Bool.{OnTrue, OnFalse};
 ghost use Rattle.route_values.specs.declared.addr.Family.TheVariants.{Ipv4, Ipv6};
 ghost use Rattle.route_values.specs.Key.{family_of_key};
+ghost use Rattle.update_grammar.specs.Codes.{update_type};
 ghost use Rattle.update_grammar.specs.Prefixes.{key_text};
 ghost use Rattle.update_grammar.specs.Update.{body};
 ghost use Rattle.update_grammar.specs.Written.{message, unreach_text};
-ghost use Rattle.attr_codec.specs.Buffer.{HasRoom};
+ghost use Rattle.attr_codec.specs.Buffer.{HasRoom, max_message};
 ghost use Rattle.update_codec.specs.Open.{IsOpenGone, AddsGone, TellsGoneFits};
-ghost use Rattle.update_codec.specs.Sizes.{key_size, unreach_growth};
+ghost use Rattle.update_codec.specs.Sizes.{frame_len, empty_size, longest_key, key_size, unreach_growth};
 
 use super::attribute::{Place, growth, put_last};
 use super::frame::{FRAME_LEN, LEN_LEN, close_attributes};
@@ -66,9 +67,9 @@ pub fn put_unreach(out: &mut Message, caps: &Caps, key: &Key) -> bool
 
 // By how much a withdrawal of so many bytes grows with a prefix of so many.
 fn withdrawal_growth(family: Family, len: usize, more: usize) -> usize
-    requires open { 23 ≤ len }
-    requires small { len ≤ 65535 }
-    requires short { more ≤ 21 }
+    requires open { frame_len ≤ len }
+    requires small { len ≤ max_message }
+    requires short { more ≤ longest_key }
     ensures { result ≡ unreach_growth family len more }
 {
     match family {
@@ -78,10 +79,10 @@ fn withdrawal_growth(family: Family, len: usize, more: usize) -> usize
 }
 
 fn put_withdrawn(out: &mut Message, key: &Key, path: bool)
-    requires open { 23 ≤ length out.old.bytes }
+    requires open { frame_len ≤ length out.old.bytes }
     requires fits { HasRoom out.old (length (key_text path key.now)) }
-    ensures bytes { (prefixes : List ℕ) → out.old.bytes ≡ message 2 (body prefixes [] [])
-        → out.new.bytes ≡ message 2 (body (prefixes ++ key_text path key.now) [] []) }
+    ensures bytes { (prefixes : List ℕ) → out.old.bytes ≡ message update_type (body prefixes [] [])
+        → out.new.bytes ≡ message update_type (body (prefixes ++ key_text path key.now) [] []) }
     ensures len { length out.new.bytes ≡ length out.old.bytes + length (key_text path key.now) }
     ensures room { out.new.room ≡ out.old.room }
 {
@@ -93,13 +94,13 @@ fn put_withdrawn(out: &mut Message, key: &Key, path: bool)
 }
 
 fn put_unreached(out: &mut Message, key: &Key, path: bool)
-    requires open { 29 ≤ length out.old.bytes }
+    requires open { empty_size Ipv6 ≤ length out.old.bytes }
     requires fits { HasRoom out.old
         (unreach_growth Ipv6 (length out.old.bytes) (length (key_text path key.now))) }
     ensures bytes { (prefixes : List ℕ)
-        → out.old.bytes ≡ message 2 (body [] (unreach_text prefixes) [])
+        → out.old.bytes ≡ message update_type (body [] (unreach_text prefixes) [])
         → out.new.bytes
-        ≡ message 2 (body [] (unreach_text (prefixes ++ key_text path key.now)) []) }
+        ≡ message update_type (body [] (unreach_text (prefixes ++ key_text path key.now)) []) }
     ensures len { length out.new.bytes ≡ length out.old.bytes
         + unreach_growth Ipv6 (length out.old.bytes) (length (key_text path key.now)) }
     ensures room { out.new.room ≡ out.old.room }
