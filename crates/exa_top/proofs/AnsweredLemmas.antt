@@ -11,7 +11,8 @@ use Rattle.exa_top.specs.declared.status.Status.TheVariants as status
 use Rattle.exa_top.specs.declared.words.TextCommand.{TextCommand}
 use Rattle.exa_top.specs.declared.words.TextCommand.TheVariants.{Encode, Help, Version}
 use Rattle.exa_top.specs.Encoding.{IsEncoding, marker, last_text}
-use Rattle.exa_top.specs.Top.{input_limit, IsOutput, ReadToEnd, ReadsWhole, ReadPart, ReadNothing, ReadsPart, Broke, GaveLimit}
+use Rattle.exa_top.specs.Top.{input_limit, IsOutput, ReadToEnd, ReadsWhole, ReadPart, ReadNothing, ReadsPart, Broke}
+use Rattle.exa_top.specs.Top.{GaveLimit}
 use Rattle.exa_top.specs.Top.{GaveFrom}
 use Rattle.exa_top.specs.Top.{Answered, Wrote}
 use Rattle.exa_top.proofs.OutputLemmas.{some_encoding, parted}
@@ -40,10 +41,12 @@ whole_is_few (Encode side) source source' bytes whole = few_given input_limit so
     whole.given whole.short
 whole_is_few Help source source' bytes whole = λ from.
     let none : SourceSeen → Type 0 = λ seen. GaveFrom input_limit source.given seen.given in
-    few_given input_limit source.given source.given [] (grows_none source.given) (omega arith) (subst none whole.same from)
+    few_given input_limit source.given source.given [] (grows_none source.given) (omega arith)
+    (subst none whole.same from)
 whole_is_few Version source source' bytes whole = λ from.
     let none : SourceSeen → Type 0 = λ seen. GaveFrom input_limit source.given seen.given in
-    few_given input_limit source.given source.given [] (grows_none source.given) (omega arith) (subst none whole.same from)
+    few_given input_limit source.given source.given [] (grows_none source.given) (omega arith)
+    (subst none whole.same from)
 
 -- a part of a read whole
 pub part_of_whole : (source source' : SourceSeen) (bytes : List ℕ) → ReadToEnd source source' bytes
@@ -58,7 +61,8 @@ part_of_whole source source' bytes whole = record {
 pub written : (command : TextCommand) (source source' : SourceSeen) (sink sink' : SinkSeen) (input early late : List ℕ)
     (ends : Status) → ReadsWhole command source source' input → ReadsPart command source source' input
     → IsOutput command input early late
-    → ((part rest : List ℕ) → early ++ late ≡ part ++ rest → length early < length part → ReadToEnd source source' input)
+    → ((part rest : List ℕ) → early ++ late ≡ part ++ rest → length early < length part
+    → ReadToEnd source source' input)
     → source'.faults ≡ source.faults → Wrote (early ++ late) sink sink' ends
     → Answered command source source' sink sink' ends
 written command source source' sink sink' input early late status.Ok whole part outcome in_time same wrote = record {
