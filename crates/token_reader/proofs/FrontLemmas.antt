@@ -1,7 +1,7 @@
 -- Tokens that may be there or not.
 use Rattle.std.proofs.Common.{◌≡◌, ◌≤◌, true, false, List, [], length, Option, Some, None, arith, refl}
 use Rattle.std.proofs.lemmas.Bool.{false≢true}
-use Rattle.std.specs.Option.{option_map, option_to_list, is_some, IfNone}
+use Rattle.std.specs.Option.{option_to_list, is_some, IfNone}
 
 module _ {T : Type 0} where
   pub length-option_to_list : (token : Option T) → length (option_to_list token) ≤ 1
@@ -13,7 +13,6 @@ module _ {T : Type 0} where
   there None P some = absurd (false≢true some)
   there (Some token) P some = tt
 
-  pub missing : {U : Type 0} (told : T → U) (token : Option T) → is_some token ≡ false
-      → option_to_list (option_map told token) ≡ []
-  missing told None none = refl
-  missing told (Some token) none = absurd (cc)
+  pub missing : (token : Option T) → is_some token ≡ false → token ≡ None
+  missing None none = refl
+  missing (Some token) none = absurd (cc)

@@ -1,2 +1,5 @@
 pub mod FrontLemmas
+pub mod PlaceLemmas
+pub mod QuoteLemmas
 pub mod LineLemmas
+pub mod FileLemmas

@@ -4,23 +4,9 @@ use Rattle.std.specs.List.{list_any, take_while, prefix_len, before_first, posit
 use Rattle.std.specs.Option.{option_to_list, option_map}
 use Rattle.token_reader.specs.declared.token.Place.{Place}
 use Rattle.token_reader.specs.Pieces.{Piece, nothing, one}
+use Rattle.token_reader.specs.Places.{start, behind_byte, behind_bytes}
 use Rattle.token_reader.specs.Signs.{is_separator, is_file_mark, is_file_word, is_line_feed, is_quote, is_hash}
 use Rattle.token_reader.specs.Tokens.{Token, Mark, Word, Quoted, Unclosed, Placed}
-
--- the place of a file's first byte
-abbrev pub start : Place
-start = record { line = 1; column = 1 }
-
--- the place behind a byte: the next one of its line, or behind a line feed, the first one of the next line
-abbrev pub behind_byte : Place → ℕ → Place
-behind_byte place b =
-    if is_line_feed b then record { line = place.line + 1; column = 1 }
-    else record { line = place.line; column = place.column + 1 }
-
--- the place behind some bytes
-abbrev pub behind_bytes : Place → List ℕ → Place
-behind_bytes place [] = place
-behind_bytes place (b ∷ bs) = behind_bytes (behind_byte place b) bs
 
 -- what a quotation mark begins, with these bytes behind it: a quoted word where another one stands on the line
 unfoldable pub quoted_piece : List ℕ → Piece

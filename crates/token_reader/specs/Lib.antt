@@ -1,7 +1,9 @@
 pub mod Tokens
 pub mod Signs
+pub mod Places
 pub mod Pieces
 pub mod Told
 pub mod LineTokens
 pub mod LineReading
 pub mod FileTokens
+pub mod FileReading

@@ -1,5 +1,5 @@
 -- The signs of lines and files.
-use Rattle.std.specs.Prelude.{ℕ, Bool, not, nat_eq, ◌==◌, ◌||◌, codes}
+use Rattle.std.specs.Prelude.{ℕ, Bool, false, not, nat_eq, ◌==◌, ◌||◌, List, [], ◌∷◌, codes}
 use Rattle.std.specs.List.{list_any}
 
 -- a space or a tab, which part the words of a line
@@ -37,3 +37,12 @@ is_quote b = b == 34
 -- the sign that begins a comment
 abbrev pub is_hash : ℕ → Bool
 is_hash b = b == 35
+
+-- a byte that a quoted word can hold
+abbrev pub is_quotable : ℕ → Bool
+is_quotable b = not (is_quote b || is_line_feed b)
+
+-- whether a text begins with such a byte
+abbrev pub begins : (ℕ → Bool) → List ℕ → Bool
+begins such [] = false
+begins such (b ∷ bs) = such b

@@ -5,11 +5,13 @@
 //! counted. Nothing here takes memory. The crate stands on no other one, and knows no grammar and no number.
 #![tactic(auto)]
 
+mod file;
 mod line;
 mod piece;
 mod token;
 mod words;
 
+pub use file::FileTokens;
 pub use line::{MAX_LINE, Tokens};
 pub use token::{Place, Token};
 pub use words::{MAX_FILE, Words};

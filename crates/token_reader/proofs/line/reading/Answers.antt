@@ -1,7 +1,7 @@
 use Rattle.std.proofs.Common.{sym, ◌∙◌, ap, ◌++◌, length, ◌+◌, arith, add-zero}
 use Rattle.token_reader.specs.LineTokens.{line_tokens, numbered, nth}
 use Rattle.token_reader.specs.Told.{piece_told}
-use Rattle.token_reader.specs.Tokens.{token_told}
+use Rattle.token_reader.specs.LineReading.{line_left}
 use Rattle.token_reader.proofs.FrontLemmas.{missing}
 use Rattle.token_reader.proofs.LineLemmas.{line_tokens-piece, reads_on, reads_out}
 use Rattle.token_reader.proofs.line.reading.Goals as goal
@@ -28,9 +28,9 @@ pub pieces-preserved : goal.pieces-preserved
 pieces-preserved c =
     let step = line_tokens-piece c.pieces.rest.now c.in-Some.behind.now c.split_at.result.1.now c.in-Some.b.now
     (piece_told c.piece_of-piece.result) c.in-Some.ensures.cases.0 c.piece_of-piece.ensures.piece c.split_at.ensures.back in
-    let none = missing token_told c.piece_of-piece.result.token (sym c.is_some.ensures ∙ c.if-is_some.false) in
+    let none = missing c.piece_of-piece.result.token (sym c.is_some.ensures ∙ c.if-is_some.false) in
     record {
-      same = sym (step ∙ ap (λ first. first ++ line_tokens 0 c.split_at.result.1.now) none) ∙ c.pieces.invariant.same;
+      same = sym (step ∙ ap (λ front. line_left front c.split_at.result.1.now) none) ∙ c.pieces.invariant.same;
       shorter = omega (arith, c.in-Some.ensures.cases.1, c.split_at.ensures.back_len, c.pieces.invariant.shorter);
     }
 
