@@ -15,3 +15,6 @@ pub use file::FileTokens;
 pub use line::{MAX_LINE, Tokens};
 pub use token::{Place, Token};
 pub use words::{MAX_FILE, Words};
+
+#[cfg(test)]
+mod tests;
