@@ -63,17 +63,23 @@ pub file_piece-quote : (b : ℕ) (bs : List ℕ) → is_separator b ≡ false �
 file_piece-quote b bs separator hash mark quote =
     sym (file_piece-other b bs separator hash mark true (ap is_quote quote))
 
-pub file_piece-word : (text bs : List ℕ) (b n : ℕ) → text ≡ b ∷ bs → is_separator b ≡ false → is_hash b ≡ false
+pub file_piece-word : (b : ℕ) (bs : List ℕ) → is_separator b ≡ false → is_hash b ≡ false → is_file_mark b ≡ false
+    → is_quote b ≡ false
+    → one (Word (b ∷ take_while is_file_word bs)) (prefix_len is_file_word bs) ≡ file_piece b bs
+file_piece-word b bs separator hash mark quote = sym (file_piece-other b bs separator hash mark false quote)
+
+-- the same in a text that is cut behind the word
+pub file_piece-cut : (text bs : List ℕ) (b n : ℕ) → text ≡ b ∷ bs → is_separator b ≡ false → is_hash b ≡ false
     → is_file_mark b ≡ false → is_quote b ≡ false → n ≡ prefix_len is_file_word bs
     → one (Word (take (n + 1) text)) n ≡ file_piece b bs
-file_piece-word text bs b n is separator hash mark quote count =
+file_piece-cut text bs b n is separator hash mark quote count =
     ap (λ whole. one (Word (take (n + 1) whole)) n) is
     ∙ ap (λ more. one (Word (take more (b ∷ bs))) n) (add-one n)
     ∙ ap (λ many. one (Word (b ∷ take many bs)) many) count
-    ∙ sym (file_piece-other b bs separator hash mark false quote)
+    ∙ file_piece-word b bs separator hash mark quote
 
 -- no byte of a word ends a line
-word_on_line : (b : ℕ) → is_file_word b ≡ true → is_line_feed b ≡ false
+pub word_on_line : (b : ℕ) → is_file_word b ≡ true → is_line_feed b ≡ false
 word_on_line b word = split (is_line_feed b) refl
   where
     split : (test : Bool) → is_line_feed b ≡ test → is_line_feed b ≡ false
@@ -119,18 +125,26 @@ further_on_line text place piece rest behind cut =
     subst (λ (p : Piece). OnLine p.further cut.others) (sym cut.piece_is) (on_line-piece cut.first cut.others)
 
 -- the tokens of the piece at the front, and those behind it
+pub file_tokens-step : (place : Place) (first : ℕ) (others : List ℕ) (piece : Piece) → piece ≡ file_piece first others
+    → file_tokens place 0 (first ∷ others)
+    ≡ option_to_list (option_map (at place) piece.token)
+    ++ file_tokens (along (behind_byte place first) piece.further) 0 (drop piece.further others)
+unfolding file_tokens
+file_tokens-step place first others piece is =
+    let on_line = subst (λ (p : Piece). OnLine p.further others) (sym is) (on_line-piece first others) in
+    ap (λ (p : Piece). option_to_list (option_map (at place) p.token)
+    ++ file_tokens (behind_byte place first) p.further others) (sym is)
+    ∙ ap (λ tokens. option_to_list (option_map (at place) piece.token) ++ tokens)
+    (file_tokens-along piece.further (behind_byte place first) others on_line)
+
 pub file_tokens-piece : (text : List ℕ) (place : Place) (piece : Piece) (rest : List ℕ) (behind : Place)
     → IsCut text place piece rest behind
     → file_tokens place 0 text ≡ option_to_list (option_map (at place) piece.token) ++ file_tokens behind 0 rest
-unfolding file_tokens
 file_tokens-piece text place piece rest behind cut =
-    let next = behind_byte place cut.first in
     ap (file_tokens place 0) cut.text_is
-    ∙ ap (λ (p : Piece). option_to_list (option_map (at place) p.token) ++ file_tokens next p.further cut.others)
-    (sym cut.piece_is)
+    ∙ file_tokens-step place cut.first cut.others piece cut.piece_is
     ∙ ap (λ tokens. option_to_list (option_map (at place) piece.token) ++ tokens)
-    (file_tokens-along piece.further next cut.others (further_on_line text place piece rest behind cut)
-    ∙ ap (λ (p : Place). file_tokens p 0 (drop piece.further cut.others)) (sym cut.behind_is)
+    (ap (λ (p : Place). file_tokens p 0 (drop piece.further cut.others)) (sym cut.behind_is)
     ∙ ap (file_tokens behind 0) (sym cut.rest_is))
 
 pub behind_bytes-piece : (text : List ℕ) (place : Place) (piece : Piece) (rest : List ℕ) (behind : Place)

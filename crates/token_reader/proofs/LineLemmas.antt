@@ -30,14 +30,20 @@ line_piece-mark b bs blank mark =
     sym (line_piece-by b bs ∙ ap (λ test. piece_by test (is_line_mark b) b bs) blank
     ∙ ap (λ test. piece_by false test b bs) mark)
 
-pub line_piece-word : (text bs : List ℕ) (b n : ℕ) → text ≡ b ∷ bs → is_blank b ≡ false → is_line_mark b ≡ false
+pub line_piece-word : (b : ℕ) (bs : List ℕ) → is_blank b ≡ false → is_line_mark b ≡ false
+    → one (Word (b ∷ take_while is_line_word bs)) (prefix_len is_line_word bs) ≡ line_piece b bs
+line_piece-word b bs blank mark =
+    sym (line_piece-by b bs ∙ ap (λ test. piece_by test (is_line_mark b) b bs) blank
+    ∙ ap (λ test. piece_by false test b bs) mark)
+
+-- the same in a text that is cut behind the word
+pub line_piece-cut : (text bs : List ℕ) (b n : ℕ) → text ≡ b ∷ bs → is_blank b ≡ false → is_line_mark b ≡ false
     → n ≡ prefix_len is_line_word bs → one (Word (take (n + 1) text)) n ≡ line_piece b bs
-line_piece-word text bs b n is blank mark count =
+line_piece-cut text bs b n is blank mark count =
     ap (λ whole. one (Word (take (n + 1) whole)) n) is
     ∙ ap (λ more. one (Word (take more (b ∷ bs))) n) (add-one n)
     ∙ ap (λ many. one (Word (b ∷ take many bs)) many) count
-    ∙ sym (line_piece-by b bs ∙ ap (λ test. piece_by test (is_line_mark b) b bs) blank
-    ∙ ap (λ test. piece_by false test b bs) mark)
+    ∙ line_piece-word b bs blank mark
 
 -- what belongs to an earlier piece is passed over
 line_tokens-behind : (n : ℕ) (bs : List ℕ) → line_tokens n bs ≡ line_tokens 0 (drop n bs)

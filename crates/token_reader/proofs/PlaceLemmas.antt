@@ -23,6 +23,10 @@ along-one place n = ap (place_at place.line) (omega arith)
 pub along-byte : (place : Place) (b n : ℕ) → is_line_feed b ≡ false → along (behind_byte place b) n ≡ along place (suc n)
 along-byte place b n other = ap (λ (p : Place). along p n) (behind_other place b other) ∙ along-one place n
 
+pub along-first : (place : Place) (b n : ℕ) → is_line_feed b ≡ false
+    → along (behind_byte place b) n ≡ along place (1 + n)
+along-first place b n other = along-byte place b n other ∙ ap (along place) (omega arith)
+
 pub along-zero : (place : Place) → along place 0 ≡ place
 along-zero place = ap (place_at place.line) (add-zero place.column)
 

@@ -5,5 +5,7 @@ pub mod Pieces
 pub mod Told
 pub mod LineTokens
 pub mod LineReading
+pub mod LineSpelling
 pub mod FileTokens
 pub mod FileReading
+pub mod FileSpelling

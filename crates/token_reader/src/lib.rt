@@ -6,12 +6,14 @@
 #![tactic(auto)]
 
 mod file;
+mod laws;
 mod line;
 mod piece;
 mod token;
 mod words;
 
 pub use file::FileTokens;
+pub use laws::tokens_are_spelled;
 pub use line::{MAX_LINE, Tokens};
 pub use token::{Place, Token};
 pub use words::{MAX_FILE, Words};

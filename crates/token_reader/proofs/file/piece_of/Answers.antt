@@ -1,6 +1,6 @@
 use Rattle.std.proofs.Common.{sym, ◌∙◌}
 use Rattle.std.proofs.lemmas.Bool.{ne_eqb}
-use Rattle.token_reader.proofs.FileLemmas.{file_piece-separator, file_piece-hash, file_piece-mark, file_piece-quote, file_piece-word}
+use Rattle.token_reader.proofs.FileLemmas.{file_piece-separator, file_piece-hash, file_piece-mark, file_piece-quote, file_piece-cut}
 use Rattle.token_reader.proofs.file.piece_of.Goals as goal
 
 pub returns-then-is_separator-clause-piece : goal.returns-then-is_separator-clause-piece
@@ -25,7 +25,7 @@ returns-then-b-eq34-clause-piece c =
 
 pub returns-clause-piece : goal.returns-clause-piece
 returns-clause-piece c =
-    file_piece-word c.args.text.now c.args.behind.now c.args.b c.word_len-further.result c.requires
+    file_piece-cut c.args.text.now c.args.behind.now c.args.b c.word_len-further.result c.requires
     (sym c.is_separator.ensures ∙ c.if-is_separator.false) (ne_eqb c.args.b 35 c.if-b-eq35.false)
     (sym c.is_mark.ensures ∙ c.if-is_mark.false) (ne_eqb c.args.b 34 c.if-b-eq34.false)
     c.word_len-further.ensures.len

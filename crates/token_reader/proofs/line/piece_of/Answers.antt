@@ -1,5 +1,5 @@
 use Rattle.std.proofs.Common.{sym, ◌∙◌}
-use Rattle.token_reader.proofs.LineLemmas.{line_piece-blank, line_piece-mark, line_piece-word}
+use Rattle.token_reader.proofs.LineLemmas.{line_piece-blank, line_piece-mark, line_piece-cut}
 use Rattle.token_reader.proofs.line.piece_of.Goals as goal
 
 pub returns-then-is_blank-clause-piece : goal.returns-then-is_blank-clause-piece
@@ -13,6 +13,6 @@ returns-then-is_mark-clause-piece c =
 
 pub returns-clause-piece : goal.returns-clause-piece
 returns-clause-piece c =
-    line_piece-word c.args.text.now c.args.behind.now c.args.b c.word_len-further.result c.requires
+    line_piece-cut c.args.text.now c.args.behind.now c.args.b c.word_len-further.result c.requires
     (sym c.is_blank.ensures ∙ c.if-is_blank.false) (sym c.is_mark.ensures ∙ c.if-is_mark.false)
     c.word_len-further.ensures.len
