@@ -1,8 +1,10 @@
 -- The tokens of a file, a piece at a time.
-use Rattle.std.proofs.Common.{ℕ, zero, suc, ◌≡◌, ◌+◌, ◌<◌, ◌≤◌, Bool, true, false, not, cond, ◌||◌, List, [], ◌∷◌, ◌++◌, length, take, drop, Option, Some, None, arith, ap, sym, ◌∙◌, refl, subst, add-one, length-append, length-drop}
+use Rattle.std.proofs.Common.{ℕ, zero, suc, ◌≡◌, ◌+◌, ◌≤◌, Bool, true, false, cond, List, [], ◌∷◌, ◌++◌}
+use Rattle.std.proofs.Common.{length, take, drop, Option, Some, None, arith, ap, sym, ◌∙◌, refl, subst, add-one}
+use Rattle.std.proofs.Common.{length-append, length-drop}
 use Rattle.std.proofs.lemmas.Bool.{false≢true, eqb-true}
 use Rattle.std.specs.List.{take_while, prefix_len, position_or_len}
-use Rattle.std.specs.Option.{option_map, option_to_list, is_some, IfNone}
+use Rattle.std.specs.Option.{option_map, option_to_list}
 use Rattle.token_reader.specs.declared.token.Place.{Place}
 use Rattle.token_reader.specs.declared.token.Token.{Token as Given}
 use Rattle.token_reader.specs.FileReading.{file_left, unread_file, IsFileReading}
@@ -10,7 +12,7 @@ use Rattle.token_reader.specs.FileTokens.{quoted_piece, file_piece, file_tokens,
 use Rattle.token_reader.specs.Pieces.{Piece, nothing, one}
 use Rattle.token_reader.specs.Places.{along, behind_byte, behind_bytes, IsInFile}
 use Rattle.token_reader.specs.Signs.{is_separator, is_file_mark, is_file_word, is_line_feed, is_quote, is_hash}
-use Rattle.token_reader.specs.Tokens.{Token, Mark, Word, Placed, token_told, front_token, front_place, behind_front}
+use Rattle.token_reader.specs.Tokens.{Mark, Word, token_told, front_token, front_place, behind_front}
 use Rattle.token_reader.proofs.FrontLemmas.{length-option_to_list}
 use Rattle.token_reader.proofs.PlaceLemmas.{OnLine, on_line, along-zero, along-byte, behind_bytes-along, in_file-behind}
 use Rattle.token_reader.proofs.QuoteLemmas.{on_line-feed, on_line-quoted}
@@ -160,7 +162,7 @@ pub in_file-piece : (text : List ℕ) (place : Place) (piece : Piece) (rest : Li
     → IsCut text place piece rest behind → IsInFile place (length text) → IsInFile behind (length rest)
 in_file-piece text place piece rest behind cut is =
     let whole : length text ≡ 1 + piece.further + length rest =
-        omega (arith, ap length cut.text_is, ap length cut.rest_is, length-drop piece.further cut.others, cut.within) in
+    omega (arith, ap length cut.text_is, ap length cut.rest_is, length-drop piece.further cut.others, cut.within) in
     subst (λ (p : Place). IsInFile p (length rest)) (sym cut.behind_is)
     (in_file-behind place cut.first piece.further (length rest) (subst (IsInFile place) whole is))
 
@@ -178,8 +180,12 @@ length-file_tokens place zero (b ∷ bs) =
     let piece = file_piece b bs in
     let next = behind_byte place b in
     let here = option_map (at place) piece.token in
-    omega (arith, length-append (option_to_list here) (file_tokens next piece.further bs), length-option_to_list here,
-      length-file_tokens next piece.further bs)
+    omega (
+      arith,
+      length-append (option_to_list here) (file_tokens next piece.further bs),
+      length-option_to_list here,
+      length-file_tokens next piece.further bs,
+    )
 
 nothing_left : (behind : Place) (rest : List ℕ) → rest ≡ [] → file_tokens behind 0 rest ≡ []
 nothing_left behind rest ended = ap (file_tokens behind 0) ended ∙ file_tokens-nil behind

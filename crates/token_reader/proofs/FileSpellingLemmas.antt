@@ -1,19 +1,23 @@
 -- Reading a file and spelling it agree.
-use Rattle.std.proofs.Common.{ℕ, zero, suc, ◌≡◌, ◌+◌, ◌≤◌, Bool, true, false, not, ◌||◌, List, [], ◌∷◌, ◌++◌, length, take, drop, Some, None, arith, ap, sym, ◌∙◌, refl, subst, length-drop, length-append}
+use Rattle.std.proofs.Common.{ℕ, zero, suc, ◌≡◌, ◌+◌, ◌≤◌, Bool, true, false, not, ◌||◌, List, [], ◌∷◌, ◌++◌, length}
+use Rattle.std.proofs.Common.{take, drop, arith, ap, sym, ◌∙◌, refl, subst, length-drop}
 use Rattle.std.proofs.lemmas.Bool.{false≢true, eqb-true}
 use Rattle.std.proofs.lemmas.List.{take-append-drop}
 use Rattle.std.proofs.Math.Seq.{drop-append_seam, take-append_seam}
-use Rattle.std.specs.List.{AllByRecursion, prefix_len, position_or_len, before_first}
+use Rattle.std.specs.List.{AllByRecursion, prefix_len, position_or_len}
 use Rattle.std.specs.Option.{option_map, option_to_list}
 use Rattle.std.specs.Prelude.{codes}
 use Rattle.token_reader.specs.declared.token.Place.{Place}
-use Rattle.token_reader.specs.FileSpelling.{IsLineEnd, IsComment, IsFileWord, IsInner, SpellsFile, done, separator, comment, mark, word, quoted, unclosed}
-use Rattle.token_reader.specs.FileTokens.{quoted_piece, file_piece, file_tokens, at}
+use Rattle.token_reader.specs.FileSpelling.{IsLineEnd, IsComment, IsFileWord, IsInner, SpellsFile, done, separator}
+use Rattle.token_reader.specs.FileSpelling.{comment, mark, word, quoted, unclosed}
+use Rattle.token_reader.specs.FileTokens.{file_piece, file_tokens, at}
 use Rattle.token_reader.specs.Pieces.{Piece, nothing, one}
 use Rattle.token_reader.specs.Places.{start, along, behind_byte}
-use Rattle.token_reader.specs.Signs.{is_separator, is_file_mark, is_file_word, is_line_feed, is_quote, is_hash, is_quotable, begins}
-use Rattle.token_reader.specs.Tokens.{Token, Mark, Word, Quoted, Unclosed, Placed}
-use Rattle.token_reader.proofs.FileLemmas.{file_piece-separator, file_piece-hash, file_piece-mark, file_piece-quote, file_piece-word, file_tokens-step, file_tokens-nil, word_on_line}
+use Rattle.token_reader.specs.Signs.{is_separator, is_file_mark, is_file_word, is_line_feed, is_quote, is_hash}
+use Rattle.token_reader.specs.Signs.{is_quotable, begins}
+use Rattle.token_reader.specs.Tokens.{Mark, Word, Quoted, Unclosed, Placed}
+use Rattle.token_reader.proofs.FileLemmas.{file_piece-separator, file_piece-hash, file_piece-mark, file_piece-quote}
+use Rattle.token_reader.proofs.FileLemmas.{file_piece-word, file_tokens-step, file_tokens-nil, word_on_line}
 use Rattle.token_reader.proofs.PlaceLemmas.{along-zero, along-first}
 use Rattle.token_reader.proofs.PrefixLemmas.{prefix_len-whole, prefix_passes, prefix_ends}
 use Rattle.token_reader.proofs.QuoteLemmas.{quoted_piece-closed, quoted_piece-open}
@@ -216,7 +220,8 @@ begins_with_quote : (text : List ℕ) → begins is_quote text ≡ true → text
 begins_with_quote [] is = absurd (false≢true is)
 begins_with_quote (b ∷ bs) is = ap (λ first. first ∷ bs) (eqb-true b 34 is)
 
-spelled_quoted : (place : Place) (bs : List ℕ) → begins is_quote (drop (prefix_len is_quotable bs) bs) ≡ true → Others bs
+spelled_quoted : (place : Place) (bs : List ℕ) → begins is_quote (drop (prefix_len is_quotable bs) bs) ≡ true
+    → Others bs
     → SpellsFile place (34 ∷ bs) (file_tokens place 0 (34 ∷ bs))
 spelled_quoted place bs closes others =
     let n = prefix_len is_quotable bs in
@@ -225,8 +230,8 @@ spelled_quoted place bs closes others =
     let behind = along place (1 + length text + 1) in
     let is = prefix_passes is_quotable bs in
     let whole : 34 ∷ text ++ 34 ∷ rest ≡ 34 ∷ bs =
-        ap (λ more. 34 ∷ text ++ more) (sym (begins_with_quote (drop n bs) closes))
-        ∙ ap (λ more. 34 ∷ more) (take-append-drop n bs) in
+    ap (λ more. 34 ∷ text ++ more) (sym (begins_with_quote (drop n bs) closes))
+    ∙ ap (λ more. 34 ∷ more) (take-append-drop n bs) in
     moved whole (sym (tokens-quoted place text rest is) ∙ ap (file_tokens place 0) whole)
     (quoted place text rest (file_tokens behind 0 rest) is
     (others behind rest (omega (arith, length-drop n bs, length-drop 1 (drop n bs)))))

@@ -1,14 +1,15 @@
 -- The tokens of a line, a piece at a time.
-use Rattle.std.proofs.Common.{ℕ, zero, suc, ◌≡◌, ◌+◌, ◌<◌, ◌≤◌, Bool, true, false, cond, List, [], ◌∷◌, ◌++◌, length, take, drop, Option, Some, None, arith, ap, sym, ◌∙◌, refl, add-one, length-append}
+use Rattle.std.proofs.Common.{ℕ, zero, suc, ◌≡◌, ◌+◌, ◌<◌, ◌≤◌, Bool, true, false, cond, List, [], ◌∷◌, ◌++◌, length}
+use Rattle.std.proofs.Common.{take, drop, Option, Some, None, arith, ap, sym, ◌∙◌, refl, add-one, length-append}
 use Rattle.std.proofs.lemmas.List.{nil_from_length}
 use Rattle.std.specs.List.{take_while, prefix_len}
-use Rattle.std.specs.Option.{option_map, option_to_list, is_some, IfNone}
+use Rattle.std.specs.Option.{option_map, option_to_list, is_some}
 use Rattle.token_reader.specs.declared.token.Token.{Token as Given}
 use Rattle.token_reader.specs.LineReading.{line_left, unread_line, IsLineReading}
 use Rattle.token_reader.specs.LineTokens.{line_piece, line_tokens, numbered, nth}
 use Rattle.token_reader.specs.Pieces.{Piece, nothing, one}
 use Rattle.token_reader.specs.Signs.{is_blank, is_line_mark, is_line_word}
-use Rattle.token_reader.specs.Tokens.{Token, Mark, Word, Placed, token_told, front_token, front_place, behind_front}
+use Rattle.token_reader.specs.Tokens.{Token, Mark, Word, token_told, front_token, front_place, behind_front}
 use Rattle.token_reader.proofs.FrontLemmas.{length-option_to_list, there}
 
 -- a piece, by what its first byte is
@@ -74,8 +75,12 @@ length-line_tokens (suc n) [] = omega arith
 length-line_tokens (suc n) (b ∷ bs) = omega (arith, length-line_tokens n bs)
 length-line_tokens zero (b ∷ bs) =
     let piece = line_piece b bs in
-    omega (arith, length-append (option_to_list piece.token) (line_tokens piece.further bs),
-      length-option_to_list piece.token, length-line_tokens piece.further bs)
+    omega (
+      arith,
+      length-append (option_to_list piece.token) (line_tokens piece.further bs),
+      length-option_to_list piece.token,
+      length-line_tokens piece.further bs,
+    )
 
 pub length-line_left : (front : Option Given) (rest : List ℕ)
     → length (line_left front rest) ≤ length (option_to_list front) + length rest
@@ -119,7 +124,8 @@ reads_out number rest out from_one few = record {
 }
 
 -- at the end nothing is left behind the front
-pub stays : (front : Option Given) (number : ℕ) (rest : List ℕ) → IsLineReading front number rest → is_some front ≡ false
+pub stays : (front : Option Given) (number : ℕ) (rest : List ℕ) → IsLineReading front number rest
+    → is_some front ≡ false
     → (unread_line front number rest).left ≡ behind_front (unread_line front number rest).left
 stays None number rest is none =
     let nothing_more = ap (numbered number) (nothing_left rest is.ended) in

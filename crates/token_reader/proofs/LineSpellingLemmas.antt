@@ -1,16 +1,18 @@
 -- Reading a line and spelling it agree.
-use Rattle.std.proofs.Common.{ℕ, zero, suc, ◌≡◌, ◌+◌, ◌≤◌, Bool, true, false, not, ◌||◌, List, [], ◌∷◌, ◌++◌, length, take, drop, arith, ap, sym, ◌∙◌, refl, subst, length-drop}
+use Rattle.std.proofs.Common.{ℕ, zero, suc, ◌≡◌, ◌≤◌, Bool, true, false, not, ◌||◌, List, [], ◌∷◌, ◌++◌, length}
+use Rattle.std.proofs.Common.{take, drop, arith, ap, sym, ◌∙◌, refl, subst, length-drop}
 use Rattle.std.proofs.lemmas.Bool.{false≢true}
 use Rattle.std.proofs.lemmas.List.{take-append-drop}
 use Rattle.std.proofs.Math.Seq.{drop-append_seam, take-append_seam}
 use Rattle.std.specs.List.{prefix_len}
 use Rattle.std.specs.Prelude.{codes}
 use Rattle.token_reader.specs.LineSpelling.{IsLineWord, SpellsLine, done, blank, mark, word}
-use Rattle.token_reader.specs.LineTokens.{line_piece, line_tokens}
+use Rattle.token_reader.specs.LineTokens.{line_tokens}
 use Rattle.token_reader.specs.Pieces.{nothing, one}
 use Rattle.token_reader.specs.Signs.{is_blank, is_line_mark, is_line_word}
 use Rattle.token_reader.specs.Tokens.{Token, Mark, Word}
-use Rattle.token_reader.proofs.LineLemmas.{line_piece-blank, line_piece-mark, line_piece-word, line_tokens-piece, line_tokens-nil}
+use Rattle.token_reader.proofs.LineLemmas.{line_piece-blank, line_piece-mark, line_piece-word, line_tokens-piece}
+use Rattle.token_reader.proofs.LineLemmas.{line_tokens-nil}
 use Rattle.token_reader.proofs.SignLemmas.{apart}
 use Rattle.token_reader.proofs.PrefixLemmas.{prefix_len-whole, prefix_passes, prefix_ends}
 
@@ -41,7 +43,8 @@ line_tokens-blank b bs is =
 line_tokens-mark : (b : ℕ) (bs : List ℕ) → is_line_mark b ≡ true
     → line_tokens 0 (b ∷ bs) ≡ Mark b ∷ line_tokens 0 bs
 line_tokens-mark b bs is =
-    line_tokens-piece (b ∷ bs) bs bs b (one (Mark b) 0) refl (line_piece-mark b bs (apart is_blank (codes "[](),") b refl is) is) refl
+    line_tokens-piece (b ∷ bs) bs bs b (one (Mark b) 0) refl (line_piece-mark b bs
+    (apart is_blank (codes "[](),") b refl is) is) refl
 
 -- what is spelled is read
 line_read : {line : List ℕ} {tokens : List Token} → SpellsLine line tokens → line_tokens 0 line ≡ tokens

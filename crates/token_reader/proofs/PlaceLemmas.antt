@@ -1,6 +1,6 @@
 -- Places along a line of a file.
-use Rattle.std.proofs.Common.{ℕ, zero, suc, ◌≡◌, ◌+◌, ◌≤◌, Bool, true, false, not, cond, List, [], ◌∷◌, length, take, drop, arith, ap, sym, ◌∙◌, refl, subst, add-zero}
-use Rattle.std.proofs.lemmas.Bool.{false≢true}
+use Rattle.std.proofs.Common.{ℕ, zero, suc, ◌≡◌, ◌+◌, ◌≤◌, Bool, true, false, cond, List, [], ◌∷◌, length, take}
+use Rattle.std.proofs.Common.{drop, arith, ap, sym, ◌∙◌, refl, subst, add-zero}
 use Rattle.std.specs.List.{AllByRecursion, prefix_len}
 use Rattle.token_reader.specs.declared.token.Place.{Place}
 use Rattle.token_reader.specs.Places.{along, behind_byte, behind_bytes, IsInFile}
@@ -20,7 +20,8 @@ behind_other place b other = ap (λ test. cond test (place_at (place.line + 1) 1
 along-one : (place : Place) (n : ℕ) → along (along place 1) n ≡ along place (suc n)
 along-one place n = ap (place_at place.line) (omega arith)
 
-pub along-byte : (place : Place) (b n : ℕ) → is_line_feed b ≡ false → along (behind_byte place b) n ≡ along place (suc n)
+pub along-byte : (place : Place) (b n : ℕ) → is_line_feed b ≡ false
+    → along (behind_byte place b) n ≡ along place (suc n)
 along-byte place b n other = ap (λ (p : Place). along p n) (behind_other place b other) ∙ along-one place n
 
 pub along-first : (place : Place) (b n : ℕ) → is_line_feed b ≡ false

@@ -1,5 +1,6 @@
 -- The bytes from the front on that pass a test.
-use Rattle.std.proofs.Common.{ℕ, suc, ◌≡◌, ◌+◌, Bool, true, false, cond, List, [], ◌∷◌, ◌++◌, length, take, drop, arith, ap, ◌∙◌, refl, subst}
+use Rattle.std.proofs.Common.{ℕ, suc, ◌≡◌, ◌+◌, Bool, true, false, cond, List, [], ◌∷◌, ◌++◌, length, take, drop, arith}
+use Rattle.std.proofs.Common.{ap, ◌∙◌, refl, subst}
 use Rattle.std.specs.List.{AllByRecursion, prefix_len}
 use Rattle.token_reader.specs.Signs.{begins}
 

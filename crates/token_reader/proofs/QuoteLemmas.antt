@@ -1,5 +1,6 @@
 -- Quoted words: the first quotation mark or line feed decides.
-use Rattle.std.proofs.Common.{ℕ, suc, ◌≡◌, ◌+◌, Bool, true, false, not, cond, ◌||◌, List, [], ◌∷◌, take, drop, arith, ap, sym, ◌∙◌, refl, subst}
+use Rattle.std.proofs.Common.{ℕ, suc, ◌≡◌, ◌+◌, Bool, true, false, not, cond, ◌||◌, List, [], ◌∷◌, take, drop, arith}
+use Rattle.std.proofs.Common.{ap, sym, ◌∙◌, refl, subst}
 use Rattle.std.proofs.lemmas.Bool.{false≢true, eqb-true}
 use Rattle.std.proofs.lemmas.List.Sums.{take_while-cons}
 use Rattle.std.specs.List.{list_any, prefix_len, before_first, position_or_len}
@@ -152,12 +153,12 @@ closes_at : (b : ℕ) (bs : List ℕ) (quote feed : Bool) → Tests b quote feed
 closes_at b bs quote true tests others close = absurd (false≢true (sym (closed_at b bs quote true tests) ∙ close))
 closes_at b bs true false tests others close =
     let now : 1 ≡ position_or_len is_quote (b ∷ bs) + 1 =
-        sym (ap (λ test. cond (not test) (1 + position_or_len is_quote bs) 0 + 1) tests.quote_is) in
+    sym (ap (λ test. cond (not test) (1 + position_or_len is_quote bs) 0 + 1) tests.quote_is) in
     subst (λ n. OnLine n (b ∷ bs)) now (tests.feed_is, tt)
 closes_at b bs false false tests others close =
     let later : suc (position_or_len is_quote bs + 1) ≡ position_or_len is_quote (b ∷ bs) + 1 =
-        more (position_or_len is_quote bs)
-        ∙ sym (ap (λ test. cond (not test) (1 + position_or_len is_quote bs) 0 + 1) tests.quote_is) in
+    more (position_or_len is_quote bs)
+    ∙ sym (ap (λ test. cond (not test) (1 + position_or_len is_quote bs) 0 + 1) tests.quote_is) in
     subst (λ n. OnLine n (b ∷ bs)) later (tests.feed_is, others (sym (closed_at b bs false false tests) ∙ close))
   where
     more : (n : ℕ) → suc (n + 1) ≡ 1 + n + 1

@@ -4,7 +4,8 @@ use Rattle.std.specs.List.{AllByRecursion}
 use Rattle.token_reader.specs.declared.token.Place.{Place}
 use Rattle.token_reader.specs.FileTokens.{at, tokens_of_file}
 use Rattle.token_reader.specs.Places.{start, along, behind_byte}
-use Rattle.token_reader.specs.Signs.{is_separator, is_file_mark, is_file_word, is_line_feed, is_quotable, is_quote, is_hash, begins}
+use Rattle.token_reader.specs.Signs.{is_separator, is_file_mark, is_file_word, is_line_feed, is_quotable, is_quote}
+use Rattle.token_reader.specs.Signs.{is_hash, begins}
 use Rattle.token_reader.specs.Tokens.{Placed, Mark, Word, Quoted, Unclosed}
 
 -- a line ends here: with a line feed, or with the file
@@ -17,7 +18,8 @@ pub record IsComment (text rest : List ℕ) : Type 0 where
   pub all : AllByRecursion (λ b. is_line_feed b ≡ false) text
   pub ends : IsLineEnd rest
 
--- the bytes of a word, which begins with no sign of a comment or a quoted word, and ends where no further such byte stands
+-- the bytes of a word, which begins with no sign of a comment or a quoted word, and ends where no further such byte
+-- stands
 pub record IsFileWord (first : ℕ) (others rest : List ℕ) : Type 0 where
   pub all : AllByRecursion (λ b. is_file_word b ≡ true) (first ∷ others)
   pub no_comment : is_hash first ≡ false

@@ -2,8 +2,10 @@
 ghost use Rattle.std.specs.Prelude.{◌≡◌, ◌≤◌, ◌+◌, ◌<◌, ◌∷◌, length};
 ghost use Rattle.std.specs.List.{prefix_len, position_or_len};
 ghost use Rattle.token_reader.specs.Told.{piece_told};
-ghost use Rattle.token_reader.specs.Signs.{is_separator, is_file_mark, is_file_word, is_line_feed, is_quote, is_quotable, begins};
-ghost use Rattle.token_reader.specs.FileTokens.{file_piece, quoted_piece, file_tokens, tokens_of_file, end_of_file};
+ghost use Rattle.token_reader.specs.Signs.{is_separator, is_file_mark, is_file_word, is_line_feed};
+ghost use Rattle.token_reader.specs.Signs.{is_quote, is_quotable, begins};
+ghost use Rattle.token_reader.specs.FileTokens.{file_piece, quoted_piece, file_tokens};
+ghost use Rattle.token_reader.specs.FileTokens.{tokens_of_file, end_of_file};
 ghost use Rattle.token_reader.specs.Places.{along, behind_byte, behind_bytes, IsInFile};
 
 use crate::piece::Piece;
@@ -20,8 +22,10 @@ use std::marker::Model;
 /// byte.
 #[derive(Drop)]
 pub struct FileTokens<'a> {
+    // The front token and its place, or None and that of the end.
     front: Option<Token<'a>>,
     place: Place,
+    // The bytes behind the front token, and where they begin.
     rest: &'a [u8],
     behind: Place,
 }
@@ -75,10 +79,10 @@ fn reading(bytes: &[u8], start: Place) -> FileTokens<'_>
 {
     let mut rest = bytes;
     let mut place = start;
-    'pieces: while let Some((b, after)) = rest.split_first() {
-        let piece = piece_of(rest, *b, after);
-        let behind = behind(place, *b, piece.further);
-        (_, rest) = after.split_at(piece.further);
+    'pieces: while let Some((b, others)) = rest.split_first() {
+        let piece = piece_of(rest, *b, others);
+        let behind = place_behind(place, *b, piece.further);
+        (_, rest) = others.split_at(piece.further);
         if piece.token.is_some() {
             return FileTokens {
                 front: piece.token,
@@ -98,7 +102,7 @@ fn reading(bytes: &[u8], start: Place) -> FileTokens<'_>
 }
 
 // The place behind a byte and some further ones of its line.
-fn behind(place: Place, b: u8, further: usize) -> Place
+fn place_behind(place: Place, b: u8, further: usize) -> Place
     requires { IsInFile place (1 + further) }
     ensures { result ≡ along (behind_byte place b) further }
 {
@@ -117,10 +121,10 @@ fn behind(place: Place, b: u8, further: usize) -> Place
 }
 
 // What begins with the first byte of a text.
-fn piece_of<'a>(text: &'a [u8], b: u8, behind: &'a [u8]) -> Piece<'a>
-    requires { text.now ≡ b ∷ behind.now }
-    ensures piece { piece_told result ≡ file_piece b behind.now }
-    ensures within { result.further ≤ length behind.now }
+fn piece_of<'a>(text: &'a [u8], b: u8, others: &'a [u8]) -> Piece<'a>
+    requires { text.now ≡ b ∷ others.now }
+    ensures piece { piece_told result ≡ file_piece b others.now }
+    ensures within { result.further ≤ length others.now }
 {
     if is_separator(b) {
         return Piece {
@@ -131,7 +135,7 @@ fn piece_of<'a>(text: &'a [u8], b: u8, behind: &'a [u8]) -> Piece<'a>
     if b == b'#' {
         return Piece {
             token: None,
-            further: line_len(behind),
+            further: line_len(others),
         };
     }
     if is_mark(b) {
@@ -141,9 +145,9 @@ fn piece_of<'a>(text: &'a [u8], b: u8, behind: &'a [u8]) -> Piece<'a>
         };
     }
     if b == b'"' {
-        return quoted(behind);
+        return quoted(others);
     }
-    let further = word_len(behind);
+    let further = word_len(others);
     Piece {
         token: Some(Token::Word(&text[..further + 1])),
         further,
@@ -206,7 +210,9 @@ fn quotable_len(text: &[u8]) -> usize
     ensures len { result ≡ prefix_len is_quotable text.now }
     ensures within { result ≤ length text.now }
 {
-    text.iter().take_while(|b| **b != b'"' && **b != b'\n').count()
+    text.iter()
+        .take_while(|b| **b != b'"' && **b != b'\n')
+        .count()
 }
 
 // How many bytes stand before the first line feed.

@@ -1,15 +1,14 @@
 //! The tokens of a line.
-ghost use Rattle.std.specs.Prelude.{◌≡◌, ◌≤◌, ◌+◌, ◌<◌, ◌∷◌, length, take, Some, None};
+ghost use Rattle.std.specs.Prelude.{◌≡◌, ◌≤◌, ◌+◌, ◌<◌, ◌∷◌, length};
 ghost use Rattle.std.specs.List.{prefix_len};
-ghost use Rattle.std.specs.Option.{option_map, option_to_list};
 ghost use Rattle.token_reader.specs.Told.{piece_told};
 ghost use Rattle.token_reader.specs.Signs.{is_blank, is_line_mark, is_line_word};
-ghost use Rattle.token_reader.specs.LineTokens.{line_piece, line_tokens, numbered, nth, tokens_of_line, end_of_line};
-ghost use Rattle.token_reader.specs.Tokens.{token_told, front_token, front_place, behind_front};
+ghost use Rattle.token_reader.specs.LineTokens.{line_piece, line_tokens, numbered, nth};
+ghost use Rattle.token_reader.specs.LineTokens.{tokens_of_line, end_of_line};
 
 use crate::piece::Piece;
 use crate::token::{Place, Token};
-use crate::words::{MAX_FILE, Words};
+use crate::words::Words;
 use std::marker::Model;
 
 /// The most bytes that a line of tokens has.
@@ -21,8 +20,10 @@ pub const MAX_LINE: usize = 65_535;
 /// place is 1, and its column is the token's number, from 1; the end's is one more than there are tokens.
 #[derive(Drop)]
 pub struct Tokens<'a> {
+    // The front token and its number, or None and one more than there were.
     front: Option<Token<'a>>,
     number: u32,
+    // The bytes behind the front token.
     rest: &'a [u8],
 }
 
@@ -80,9 +81,9 @@ fn reading(bytes: &[u8], number: u32) -> Tokens<'_>
     ensures end { result.end ≡ nth (number + length (line_tokens 0 bytes.now)) }
 {
     let mut rest = bytes;
-    'pieces: while let Some((b, behind)) = rest.split_first() {
-        let piece = piece_of(rest, *b, behind);
-        (_, rest) = behind.split_at(piece.further);
+    'pieces: while let Some((b, others)) = rest.split_first() {
+        let piece = piece_of(rest, *b, others);
+        (_, rest) = others.split_at(piece.further);
         if piece.token.is_some() {
             return Tokens {
                 front: piece.token,
@@ -99,10 +100,10 @@ fn reading(bytes: &[u8], number: u32) -> Tokens<'_>
 }
 
 // What begins with the first byte of a text.
-fn piece_of<'a>(text: &'a [u8], b: u8, behind: &'a [u8]) -> Piece<'a>
-    requires { text.now ≡ b ∷ behind.now }
-    ensures piece { piece_told result ≡ line_piece b behind.now }
-    ensures within { result.further ≤ length behind.now }
+fn piece_of<'a>(text: &'a [u8], b: u8, others: &'a [u8]) -> Piece<'a>
+    requires { text.now ≡ b ∷ others.now }
+    ensures piece { piece_told result ≡ line_piece b others.now }
+    ensures within { result.further ≤ length others.now }
 {
     if is_blank(b) {
         return Piece {
@@ -116,7 +117,7 @@ fn piece_of<'a>(text: &'a [u8], b: u8, behind: &'a [u8]) -> Piece<'a>
             further: 0,
         };
     }
-    let further = word_len(behind);
+    let further = word_len(others);
     Piece {
         token: Some(Token::Word(&text[..further + 1])),
         further,

@@ -33,7 +33,12 @@ fn stand<W: Words>(words: &mut W, wanted: &[(Token, u32, u32)], end: (u32, u32))
         words.advance();
     }
     words.advance();
-    words.peek() == None && words.place() == Place { line: end.0, column: end.1 }
+    words.peek() == None
+        && words.place()
+            == Place {
+                line: end.0,
+                column: end.1,
+            }
 }
 
 const LINES: [(&str, &[(Token<'static>, u32, u32)], u32); 7] = [
@@ -73,11 +78,7 @@ const LINES: [(&str, &[(Token<'static>, u32, u32)], u32); 7] = [
         ],
         4,
     ),
-    (
-        "a\r b\r",
-        &[(Word(b"a\r"), 1, 1), (Word(b"b\r"), 1, 2)],
-        3,
-    ),
+    ("a\r b\r", &[(Word(b"a\r"), 1, 1), (Word(b"b\r"), 1, 2)], 3),
 ];
 
 #[test]
@@ -92,7 +93,11 @@ const FILES: [(&str, &[(Token<'static>, u32, u32)], (u32, u32)); 12] = [
     ("", &[], (1, 1)),
     (" \r\n\t", &[], (2, 2)),
     ("a\n", &[(Word(b"a"), 1, 1)], (2, 1)),
-    ("\r\n\t a\rb\tc", &[(Word(b"a"), 2, 3), (Word(b"b"), 2, 5), (Word(b"c"), 2, 7)], (2, 8)),
+    (
+        "\r\n\t a\rb\tc",
+        &[(Word(b"a"), 2, 3), (Word(b"b"), 2, 5), (Word(b"c"), 2, 7)],
+        (2, 8),
+    ),
     (
         "process h { run cat;",
         &[
@@ -146,20 +151,12 @@ const FILES: [(&str, &[(Token<'static>, u32, u32)], (u32, u32)); 12] = [
     ("\"a\"#b", &[(Quoted(b"a"), 1, 1)], (1, 6)),
     (
         "x \"a;\nb\"c",
-        &[
-            (Word(b"x"), 1, 1),
-            (Unclosed, 1, 3),
-            (Word(b"b\"c"), 2, 1),
-        ],
+        &[(Word(b"x"), 1, 1), (Unclosed, 1, 3), (Word(b"b\"c"), 2, 1)],
         (2, 4),
     ),
     (
         "\"a\r\"\n;\"",
-        &[
-            (Quoted(b"a\r"), 1, 1),
-            (Mark(b';'), 2, 1),
-            (Unclosed, 2, 2),
-        ],
+        &[(Quoted(b"a\r"), 1, 1), (Mark(b';'), 2, 1), (Unclosed, 2, 2)],
         (2, 3),
     ),
 ];
@@ -184,7 +181,13 @@ fn the_longest_line_is_read_to_its_end(rt: HostRuntime) -> Result<(), Fail> {
     let bytes = commas(rt.alloc(), MAX_LINE)?;
     let mut words = Tokens::new(&bytes);
     assert_eq!(rt; count(&mut words), 65_535);
-    assert_eq!(rt; words.place(), Place { line: 1, column: 65_536 });
+    assert_eq!(rt;
+        words.place(),
+        Place {
+            line: 1,
+            column: 65_536
+        }
+    );
     Ok(())
 }
 
@@ -193,6 +196,12 @@ fn the_longest_file_is_read_to_its_end(rt: HostRuntime) -> Result<(), Fail> {
     let bytes = commas(rt.alloc(), MAX_FILE)?;
     let mut words = FileTokens::new(&bytes);
     assert_eq!(rt; count(&mut words), 1_048_576);
-    assert_eq!(rt; words.place(), Place { line: 1, column: 1_048_577 });
+    assert_eq!(rt;
+        words.place(),
+        Place {
+            line: 1,
+            column: 1_048_577
+        }
+    );
     Ok(())
 }

@@ -1,7 +1,8 @@
 //! What a grammar reads tokens from.
 ghost use Rattle.std.specs.Prelude.{◌≡◌, ◌<◌, ◌≤◌, List, length};
 ghost use Rattle.std.specs.Option.{option_map};
-ghost use Rattle.token_reader.specs.Tokens.{Placed, token_told, front_token, front_place, behind_front};
+ghost use Rattle.token_reader.specs.Tokens.{Placed, token_told, front_token, front_place};
+ghost use Rattle.token_reader.specs.Tokens.{behind_front};
 ghost use Rattle.token_reader.specs.declared.token.Place.{Place};
 
 use crate::token::{Place, Token};

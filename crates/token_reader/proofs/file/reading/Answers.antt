@@ -10,15 +10,15 @@ returns-then-is_some c =
     let text = c.pieces.rest.now in
     let piece = piece_told c.piece_of-piece.result in
     let rest = c.split_at.result.1.now in
-    let behind = c.behind-behind.result in
+    let behind = c.place_behind-behind.result in
     let cut : IsCut text c.pieces.place piece rest behind = record {
       first = c.in-Some.b.now;
-      others = c.in-Some.after.now;
+      others = c.in-Some.others.now;
       text_is = c.in-Some.ensures.cases.0;
       piece_is = c.piece_of-piece.ensures.piece;
       within = c.piece_of-piece.ensures.within;
       rest_is = c.split_at.ensures.back;
-      behind_is = c.behind-behind.ensures;
+      behind_is = c.place_behind-behind.ensures;
     } in
     record {
       left = sym (file_tokens-piece text c.pieces.place piece rest behind cut) ∙ c.pieces.invariant.same;
@@ -30,15 +30,15 @@ pieces-preserved c =
     let text = c.pieces.rest.now in
     let piece = piece_told c.piece_of-piece.result in
     let rest = c.split_at.result.1.now in
-    let behind = c.behind-behind.result in
+    let behind = c.place_behind-behind.result in
     let cut : IsCut text c.pieces.place piece rest behind = record {
       first = c.in-Some.b.now;
-      others = c.in-Some.after.now;
+      others = c.in-Some.others.now;
       text_is = c.in-Some.ensures.cases.0;
       piece_is = c.piece_of-piece.ensures.piece;
       within = c.piece_of-piece.ensures.within;
       rest_is = c.split_at.ensures.back;
-      behind_is = c.behind-behind.ensures;
+      behind_is = c.place_behind-behind.ensures;
     } in
     let none = missing c.piece_of-piece.result.token (sym c.is_some.ensures ∙ c.if-is_some.false) in
     record {

@@ -1,4 +1,4 @@
-use Rattle.std.proofs.Common.{◌≡◌, ◌≤◌, length}
+use Rattle.std.proofs.Common.{◌≡◌, length}
 use Rattle.token_reader.specs.FileTokens.{file_tokens}
 use Rattle.token_reader.specs.Places.{behind_bytes, IsInFile}
 use Rattle.token_reader.proofs.file.reading.Given as goal

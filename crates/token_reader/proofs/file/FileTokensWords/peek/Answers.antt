@@ -12,5 +12,9 @@ returns-clause-token c =
 pub returns-clause-few : goal.returns-clause-few
 returns-clause-few c =
     let s = c.self.inside in
-    omega (arith, c.self.invariant.few, length-file_left s.front s.place s.rest.now s.behind,
-      ap (λ (unread : Unread). length unread.left) c.self.view_is)
+    omega (
+      arith,
+      c.self.invariant.few,
+      length-file_left s.front s.place s.rest.now s.behind,
+      ap (λ (unread : Unread). length unread.left) c.self.view_is,
+    )

@@ -1,4 +1,4 @@
-use Rattle.std.proofs.Common.{sym, ◌∙◌, ap, arith, length}
+use Rattle.std.proofs.Common.{◌∙◌, ap, arith, length}
 use Rattle.token_reader.specs.Tokens.{Unread, front_token}
 use Rattle.token_reader.specs.LineReading.{line_left}
 use Rattle.token_reader.proofs.LineLemmas.{front_of, length-numbered, length-line_left}
@@ -13,5 +13,10 @@ returns-clause-token c =
 pub returns-clause-few : goal.returns-clause-few
 returns-clause-few c =
     let s = c.self.inside in
-    omega (arith, c.self.invariant.few, length-numbered s.number (line_left s.front s.rest.now),
-      length-line_left s.front s.rest.now, ap (λ (unread : Unread). length unread.left) c.self.view_is)
+    omega (
+      arith,
+      c.self.invariant.few,
+      length-numbered s.number (line_left s.front s.rest.now),
+      length-line_left s.front s.rest.now,
+      ap (λ (unread : Unread). length unread.left) c.self.view_is,
+    )
