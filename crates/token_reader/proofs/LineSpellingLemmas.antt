@@ -1,12 +1,14 @@
 -- Reading a line and spelling it agree.
-use Rattle.std.proofs.Common.{ℕ, zero, suc, ◌≡◌, ◌≤◌, Bool, true, false, not, ◌||◌, List, [], ◌∷◌, ◌++◌, length}
+use Rattle.std.proofs.Common.{ℕ, zero, suc, ◌≡◌, ◌<◌, Option, Some, None, ◌≤◌, Bool, true, false, not, ◌||◌, List, []}
+use Rattle.std.proofs.Common.{◌∷◌, ◌++◌, length}
 use Rattle.std.proofs.Common.{take, drop, arith, ap, sym, ◌∙◌, refl, subst, length-drop}
 use Rattle.std.proofs.lemmas.Bool.{false≢true}
 use Rattle.std.proofs.lemmas.List.{take-append-drop}
 use Rattle.std.proofs.Math.Seq.{drop-append_seam, take-append_seam}
 use Rattle.std.specs.List.{prefix_len}
+use Rattle.std.specs.Option.{option_to_list}
 use Rattle.std.specs.Prelude.{codes}
-use Rattle.token_reader.specs.LineSpelling.{IsLineWord, SpellsLine, done, blank, mark, word}
+use Rattle.token_reader.specs.LineSpelling.{IsLineWord, IsLinePiece, SpellsLine, blank, mark, word, done, more}
 use Rattle.token_reader.specs.LineTokens.{line_tokens}
 use Rattle.token_reader.specs.Pieces.{nothing, one}
 use Rattle.token_reader.specs.Signs.{is_blank, is_line_mark, is_line_word}
@@ -26,7 +28,7 @@ word_byte b is = split (is_blank b) (is_line_mark b) is
     split false false is = (refl, refl)
 
 -- the tokens of a line that begins with a word
-line_tokens-word : (first : ℕ) (others rest : List ℕ) → IsLineWord first others rest
+line_tokens-word : (first : ℕ) (others rest : List ℕ) → IsLineWord (first ∷ others) rest
     → line_tokens 0 ((first ∷ others) ++ rest) ≡ Word (first ∷ others) ∷ line_tokens 0 rest
 line_tokens-word first others rest is =
     let bytes = word_byte first is.all.0 in
@@ -46,47 +48,70 @@ line_tokens-mark b bs is =
     line_tokens-piece (b ∷ bs) bs bs b (one (Mark b) 0) refl (line_piece-mark b bs
     (apart is_blank (codes "[](),") b refl is) is) refl
 
+-- the tokens of a text that begins with a piece
+line_tokens-text : {text rest : List ℕ} {token : Option Token} → IsLinePiece text rest token
+    → line_tokens 0 (text ++ rest) ≡ option_to_list token ++ line_tokens 0 rest
+line_tokens-text (blank b rest is) = line_tokens-blank b rest is
+line_tokens-text (mark b rest is) = line_tokens-mark b rest is
+line_tokens-text (word b bs rest is) = line_tokens-word b bs rest is
+
 -- what is spelled is read
 line_read : {line : List ℕ} {tokens : List Token} → SpellsLine line tokens → line_tokens 0 line ≡ tokens
 line_read done = line_tokens-nil
-line_read (blank b rest tokens is spelled) = line_tokens-blank b rest is ∙ line_read spelled
-line_read (mark b rest tokens is spelled) =
-    line_tokens-mark b rest is ∙ ap (λ others. Mark b ∷ others) (line_read spelled)
-line_read (word first others rest tokens is spelled) =
-    line_tokens-word first others rest is ∙ ap (λ more. Word (first ∷ others) ∷ more) (line_read spelled)
+line_read (more text rest token tokens is spelled) =
+    line_tokens-text is ∙ ap (λ others. option_to_list token ++ others) (line_read spelled)
 
 pub line_only : (line : List ℕ) (tokens : List Token) → SpellsLine line tokens → tokens ≡ line_tokens 0 line
 line_only line tokens spelled = sym (line_read spelled)
 
--- what is read is spelled, by what the first byte is
-spelled_by : (b : ℕ) (bs : List ℕ) (parts stands : Bool) → is_blank b ≡ parts → is_line_mark b ≡ stands
-    → ((rest : List ℕ) → length rest ≤ length bs → SpellsLine rest (line_tokens 0 rest))
-    → SpellsLine (b ∷ bs) (line_tokens 0 (b ∷ bs))
-spelled_by b bs true stands is_parts is_stands others =
-    subst (SpellsLine (b ∷ bs)) (sym (line_tokens-blank b bs is_parts))
-    (blank b bs (line_tokens 0 bs) is_parts (others bs (omega arith)))
-spelled_by b bs false true is_parts is_stands others =
-    subst (SpellsLine (b ∷ bs)) (sym (line_tokens-mark b bs is_stands))
-    (mark b bs (line_tokens 0 bs) is_stands (others bs (omega arith)))
-spelled_by b bs false false is_parts is_stands others =
-    let n = prefix_len is_line_word bs in
-    let is : IsLineWord b (take n bs) (drop n bs) = record {
-      all = (ap not (ap (λ test. test || is_line_mark b) is_parts ∙ is_stands), prefix_passes is_line_word bs);
-      ends = prefix_ends is_line_word bs;
-    } in
-    let whole : (b ∷ take n bs) ++ drop n bs ≡ b ∷ bs = ap (λ text. b ∷ text) (take-append-drop n bs) in
-    let tokens = sym (line_tokens-word b (take n bs) (drop n bs) is) ∙ ap (line_tokens 0) whole in
-    let spelled = word b (take n bs) (drop n bs) (line_tokens 0 (drop n bs)) is
-    (others (drop n bs) (omega (arith, length-drop n bs))) in
-    subst (SpellsLine (b ∷ bs)) tokens
-    (subst (λ text. SpellsLine text (Word (b ∷ take n bs) ∷ line_tokens 0 (drop n bs))) whole spelled)
+-- each line that isn't empty begins with a piece
+record Begun (bytes : List ℕ) : Type 0 where
+  text : List ℕ
+  rest : List ℕ
+  token : Option Token
+  is : IsLinePiece text rest token
+  whole : text ++ rest ≡ bytes
+  shorter : length rest < length bytes
 
+begun_by : (b : ℕ) (bs : List ℕ) (parts stands : Bool) → is_blank b ≡ parts → is_line_mark b ≡ stands → Begun (b ∷ bs)
+begun_by b bs true stands is_parts is_stands = record {
+  text = b ∷ [];
+  rest = bs;
+  token = None;
+  is = blank b bs is_parts;
+  whole = refl;
+  shorter = omega arith;
+}
+begun_by b bs false true is_parts is_stands = record {
+  text = b ∷ [];
+  rest = bs;
+  token = Some (Mark b);
+  is = mark b bs is_stands;
+  whole = refl;
+  shorter = omega arith;
+}
+begun_by b bs false false is_parts is_stands = let n = prefix_len is_line_word bs in record {
+  text = b ∷ take n bs;
+  rest = drop n bs;
+  token = Some (Word (b ∷ take n bs));
+  is = word b (take n bs) (drop n bs) (record {
+    all = (ap not (ap (λ test. test || is_line_mark b) is_parts ∙ is_stands), prefix_passes is_line_word bs);
+    ends = prefix_ends is_line_word bs;
+  });
+  whole = ap (λ more. b ∷ more) (take-append-drop n bs);
+  shorter = omega (arith, length-drop n bs);
+}
+
+-- what is read is spelled
 spelled_of : (n : ℕ) (line : List ℕ) → length line ≤ n → SpellsLine line (line_tokens 0 line)
 spelled_of n [] short = subst (SpellsLine []) (sym line_tokens-nil) done
 spelled_of zero (b ∷ bs) short = absurd (omega (arith, short))
 spelled_of (suc n) (b ∷ bs) short =
-    spelled_by b bs (is_blank b) (is_line_mark b) refl refl
-    (λ rest shorter. spelled_of n rest (omega (arith, short, shorter)))
+    let begun = begun_by b bs (is_blank b) (is_line_mark b) refl refl in
+    let others = spelled_of n begun.rest (omega (arith, short, begun.shorter)) in
+    subst (λ line. SpellsLine line (line_tokens 0 line)) begun.whole
+    (subst (SpellsLine (begun.text ++ begun.rest)) (sym (line_tokens-text begun.is))
+    (more begun.text begun.rest begun.token (line_tokens 0 begun.rest) begun.is others))
 
 pub line_found : (line : List ℕ) → SpellsLine line (line_tokens 0 line)
 line_found line = spelled_of (length line) line (omega arith)

@@ -24,10 +24,6 @@ pub along-byte : (place : Place) (b n : ℕ) → is_line_feed b ≡ false
     → along (behind_byte place b) n ≡ along place (suc n)
 along-byte place b n other = ap (λ (p : Place). along p n) (behind_other place b other) ∙ along-one place n
 
-pub along-first : (place : Place) (b n : ℕ) → is_line_feed b ≡ false
-    → along (behind_byte place b) n ≡ along place (1 + n)
-along-first place b n other = along-byte place b n other ∙ ap (along place) (omega arith)
-
 pub along-zero : (place : Place) → along place 0 ≡ place
 along-zero place = ap (place_at place.line) (add-zero place.column)
 
@@ -70,3 +66,10 @@ in_file-behind place b n rest is = split (is_line_feed b)
       lines = omega (arith, is.lines);
       columns = omega (arith, is.columns);
     }
+
+-- the place behind bytes of one line
+pub behind_bytes-line : (place : Place) (text : List ℕ) → AllByRecursion (λ b. is_line_feed b ≡ false) text
+    → behind_bytes place text ≡ along place (length text)
+behind_bytes-line place [] on_line = sym (along-zero place)
+behind_bytes-line place (b ∷ bs) on_line =
+    behind_bytes-line (behind_byte place b) bs on_line.1 ∙ along-byte place b (length bs) on_line.0
