@@ -1,0 +1,9 @@
+pub mod FrontLemmas
+pub mod SignLemmas
+pub mod PrefixLemmas
+pub mod PlaceLemmas
+pub mod QuoteLemmas
+pub mod LineLemmas
+pub mod LineSpellingLemmas
+pub mod FileLemmas
+pub mod FileSpellingLemmas

@@ -1,0 +1,11 @@
+pub mod Tokens
+pub mod Signs
+pub mod Places
+pub mod Pieces
+pub mod Told
+pub mod LineTokens
+pub mod LineReading
+pub mod LineSpelling
+pub mod FileTokens
+pub mod FileReading
+pub mod FileSpelling
