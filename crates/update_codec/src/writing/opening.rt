@@ -34,7 +34,8 @@ pub fn open_here(out: &mut Message, attrs: &WireAttrs, family: Family) -> bool
         → IsTrue result }
 
     // What is left where it fits, and where it doesn't.
-    ensures len { OnTrue result (length out.new.bytes ≡ frame_len + attributes_size family attrs.now) }
+    ensures len { OnTrue result
+        (length out.new.bytes ≡ frame_len + attributes_size family attrs.now) }
     ensures ok { (caps : Caps) →
         OnTrue result (Appended out.old out.new (written caps (head.Here family attrs.now) [])) }
     ensures open { (caps : Caps) → OnTrue result (IsOpenHere caps family out.new.bytes) }

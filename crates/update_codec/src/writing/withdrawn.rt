@@ -19,7 +19,8 @@ ghost use Rattle.update_grammar.specs.Update.{body};
 ghost use Rattle.update_grammar.specs.Written.{message, unreach_text};
 ghost use Rattle.attr_codec.specs.Buffer.{HasRoom, max_message};
 ghost use Rattle.update_codec.specs.Open.{IsOpenGone, AddsGone, TellsGoneFits};
-ghost use Rattle.update_codec.specs.Sizes.{frame_len, empty_size, longest_key, key_size, unreach_growth};
+ghost use Rattle.update_codec.specs.Sizes.{frame_len, empty_size, longest_key, key_size};
+ghost use Rattle.update_codec.specs.Sizes.{unreach_growth};
 
 use super::attribute::{Place, growth, put_last};
 use super::frame::{FRAME_LEN, LEN_LEN, close_attributes};
