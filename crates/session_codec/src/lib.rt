@@ -6,9 +6,12 @@
 //! here, and nothing is sent: no state of a session is kept.
 #![tactic(auto)]
 
+pub mod codes;
 mod negotiation;
 mod offer;
+mod writing;
 
 pub use frame_cutter::Refusal;
 pub use negotiation::{Agreed, negotiate};
 pub use offer::{Open, Path};
+pub use writing::{put_keepalive, put_notification, put_open, put_refresh};
