@@ -1,0 +1,3 @@
+pub mod GatherLemmas
+pub mod SaidLemmas
+pub mod ReadingLemmas

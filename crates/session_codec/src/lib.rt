@@ -8,10 +8,14 @@
 
 pub mod codes;
 mod negotiation;
+mod notification;
 mod offer;
+mod reading;
 mod writing;
 
 pub use frame_cutter::Refusal;
 pub use negotiation::{Agreed, negotiate};
+pub use notification::{Notification, read_notification};
 pub use offer::{Open, Path};
+pub use reading::{read_open, read_refresh};
 pub use writing::{put_keepalive, put_notification, put_open, put_refresh};
