@@ -38,7 +38,7 @@ any_joins : (a b c : Bool) → ((a || b) || c) ≡ (a || (b || c))
 any_joins true b c = refl
 any_joins false b c = refl
 
-any_none : (a : Bool) → (a || false) ≡ a
+pub any_none : (a : Bool) → (a || false) ≡ a
 any_none true = refl
 any_none false = refl
 

@@ -4,3 +4,4 @@ pub mod Written
 pub mod Found
 pub mod ReadOpen
 pub mod Said
+pub mod Laws

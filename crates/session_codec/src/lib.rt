@@ -7,6 +7,7 @@
 #![tactic(auto)]
 
 pub mod codes;
+mod laws;
 mod negotiation;
 mod notification;
 mod offer;
@@ -14,8 +15,12 @@ mod reading;
 mod writing;
 
 pub use frame_cutter::Refusal;
+pub use laws::written_is_read;
 pub use negotiation::{Agreed, negotiate};
 pub use notification::{Notification, read_notification};
 pub use offer::{Open, Path};
 pub use reading::{read_open, read_refresh};
 pub use writing::{put_keepalive, put_notification, put_open, put_refresh};
+
+#[cfg(test)]
+mod tests;
