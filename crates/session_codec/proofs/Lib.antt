@@ -1,0 +1,4 @@
+pub mod GatherLemmas
+pub mod SaidLemmas
+pub mod ReadingLemmas
+pub mod OfferLemmas
