@@ -80,7 +80,8 @@ pub gather_stops : {X M E : Type 0} (step : Step (Unit {0}) X E) → Shrinks ste
     → 0 < length bytes → told step tell tt bytes ≡ Err e → gathered op all front (each step tt bytes) ≡ total
     → total ≡ Err e
 gather_stops step shrinks op all tell front bytes e total some is so_far =
-    sym so_far ∙ ap (gathered op all front) (each_fault step shrinks tt bytes e some (told_err tell (step tt bytes) e is))
+    sym so_far ∙ ap (gathered op all front) (each_fault step shrinks tt bytes e some
+    (told_err tell (step tt bytes) e is))
 
 -- it is done where no byte is left
 pub gather_ends : {X M E : Type 0} (step : Step (Unit {0}) X E) (op : M → M → M) (all : List X → M) (tell : X → M)

@@ -1,6 +1,8 @@
 -- An OPEN that is written is read back.
-use Rattle.std.proofs.Common.{ℕ, ◌≡◌, ◌≢◌, ◌+◌, ◌^◌, ◌<◌, ◌≤◌, ◌==◌, ◌||◌, nat_lt, Bool, true, false, not, IsTrue, List, []}
-use Rattle.std.proofs.Common.{◌∷◌, ◌++◌, length, get_or, take, drop, Option, Some, None, Result, Ok, Err, arith, ap, sym}
+use Rattle.std.proofs.Common.{ℕ, ◌≡◌, ◌≢◌, ◌+◌, ◌^◌, ◌<◌, ◌≤◌, ◌==◌, ◌||◌, nat_lt, Bool, true, false, not, IsTrue}
+use Rattle.std.proofs.Common.{List, []}
+use Rattle.std.proofs.Common.{◌∷◌, ◌++◌, length, get_or, take, drop, Option, Some, None, Result, Ok, Err, arith}
+use Rattle.std.proofs.Common.{ap, sym}
 use Rattle.std.proofs.Common.{◌∙◌, refl, subst, append-nil, length-append, eq-eqb, if◌then◌else◌}
 use Rattle.std.specs.Int.{w16, w32, to_be_bytes, from_be_bytes}
 use Rattle.std.specs.List.{flat_map}
@@ -20,7 +22,8 @@ use Rattle.session_codec.specs.declared.offer.Path.TheVariants as way
 use Rattle.session_codec.specs.declared.reading.said.Said.{Said}
 use Rattle.session_codec.specs.declared.reading.ways.Ways.{Ways}
 use Rattle.session_codec.specs.Numbers.{caps_type, cap_family, cap_refresh, cap_extended, cap_as, cap_paths}
-use Rattle.session_codec.specs.Written.{Field, field_text, family_field, entry_text, entries_text, way_offered, field_when}
+use Rattle.session_codec.specs.Written.{Field, field_text, family_field, entry_text, entries_text, way_offered}
+use Rattle.session_codec.specs.Written.{field_when}
 use Rattle.session_codec.specs.Written.{offered, parameter_text, as_field, open_body}
 use Rattle.session_codec.specs.Found.{entry_at, entry_step, entries_of, first_as}
 use Rattle.session_codec.specs.ReadOpen.{field_at, cap_step, caps_in, parameter_step, unspecific, caps_at, all_caps}
@@ -201,7 +204,8 @@ both_then a b c d first next = ap (λ (s : Said). said_then s c) first ∙ ap (s
 
 offered_said : (own : Settings) → own.local_as < 2 ^ 32 → said_by (offered own) ≡ all_said own
 offered_said own fits =
-    said_of_six (field_when own.ipv4 cap_family (family_field Ipv4)) (field_when own.ipv6 cap_family (family_field Ipv6))
+    said_of_six (field_when own.ipv4 cap_family (family_field Ipv4))
+    (field_when own.ipv6 cap_family (family_field Ipv6))
     (field_when own.refresh cap_refresh []) (field_when own.extended cap_extended [])
     (field_when true cap_as (to_be_bytes w32 own.local_as)) (paths_field (way_offered own Ipv4) (way_offered own Ipv6))
     ∙ both_then _ _ _ _ (ipv4_said own.ipv4) (both_then _ _ _ _ (ipv6_said own.ipv6)

@@ -1,6 +1,6 @@
 -- The loops that read capabilities, parameters and the entries of ADD-PATH, and what follows from what they say.
-use Rattle.std.proofs.Common.{ℕ, ◌≡◌, ◌<◌, ◌==◌, Bool, true, false, List, [], ◌∷◌, length, Option, Some, None, Result, Ok}
-use Rattle.std.proofs.Common.{Err, arith, ap, sym, ◌∙◌, refl, subst}
+use Rattle.std.proofs.Common.{ℕ, ◌≡◌, ◌<◌, ◌==◌, Bool, true, false, List, [], ◌∷◌, length, Option, Some, None}
+use Rattle.std.proofs.Common.{Result, Ok, Err, arith, ap, sym, ◌∙◌, refl, subst}
 use Rattle.std.specs.Option.{ok_or}
 use Rattle.std.proofs.lemmas.Bool.{eqb-true, eqb-false}
 use Rattle.route_values.specs.declared.settings.Settings.{Settings}
@@ -11,7 +11,8 @@ use Rattle.session_codec.specs.declared.reading.said.Said.{Said}
 use Rattle.session_codec.specs.declared.reading.ways.Ways.{Ways}
 use Rattle.session_codec.specs.Written.{Field}
 use Rattle.session_codec.specs.Found.{Entry, entry_step, entries_of, first_as}
-use Rattle.session_codec.specs.ReadOpen.{field_at, cap_step, caps_in, parameter_step, unspecific, bad_parameter, caps_at}
+use Rattle.session_codec.specs.ReadOpen.{field_at, cap_step, caps_in, parameter_step, unspecific, bad_parameter}
+use Rattle.session_codec.specs.ReadOpen.{caps_at}
 use Rattle.session_codec.specs.ReadOpen.{wants_as, judged, open_of, opens_four}
 use Rattle.session_codec.specs.Said.{ways_by, ways_of, ways_then, said_by, said_of, said_then, told, said_at, open_by}
 use Rattle.session_codec.proofs.GatherLemmas.{gathered, gather_goes_on, gather_shorter, gather_stops, gather_ends}
@@ -72,7 +73,8 @@ pub parameters_go_on : (front more next : Said) (rest behind : List ℕ) (total 
     → gathered said_then said_by_all front (each parameter_step tt rest) ≡ total
     → gathered said_then said_by_all next (each parameter_step tt behind) ≡ total
 parameters_go_on front more next rest behind total is joined so_far =
-    rw joined (gather_goes_on parameter_step parameters_shrink said_then said_by_all said_by parameters_gather front rest
+    rw joined (gather_goes_on parameter_step parameters_shrink said_then said_by_all said_by parameters_gather
+    front rest
     (more, behind) total (sym is) so_far)
 
 pub parameters_stop : (front : Said) (rest : List ℕ) (r : Refusal) (total : Result Said Refusal)
@@ -121,8 +123,8 @@ pub entries_stop : (front none : Ways) (rest value : List ℕ) → (length rest 
     → none ≡ ways_by (entries_of (each entry_step tt value))
 entries_stop front none rest value filled is empty so_far =
     empty ∙ sym (no_entries (each entry_step tt value) tt
-    (gather_stops entry_step entries_shrink ways_then ways_by ways_of front rest tt (ways_read (each entry_step tt value))
-    (some_bytes rest filled) (sym is) so_far))
+    (gather_stops entry_step entries_shrink ways_then ways_by ways_of front rest tt
+    (ways_read (each entry_step tt value)) (some_bytes rest filled) (sym is) so_far))
 
 pub entries_end : (front : Ways) (rest value : List ℕ) → (length rest == 0) ≡ true
     → gathered ways_then ways_by front (each entry_step tt rest) ≡ ways_read (each entry_step tt value)
@@ -211,7 +213,8 @@ pub parameter_ok : (bytes behind : List ℕ) (parameter : Field) (said : Said) �
 parameter_ok bytes behind parameter said is says =
     placed_ok behind (caps_in parameter) said says ∙ ap all_from is
 
-pub parameter_err : (bytes behind : List ℕ) (parameter : Field) (r : Refusal) → Some (parameter, behind) ≡ field_at bytes
+pub parameter_err : (bytes behind : List ℕ) (parameter : Field) (r : Refusal)
+    → Some (parameter, behind) ≡ field_at bytes
     → Err r ≡ said_read (caps_in parameter) → Err r ≡ told parameter_step said_by tt bytes
 parameter_err bytes behind parameter r is says =
     placed_err behind (caps_in parameter) r says ∙ ap all_from is

@@ -47,7 +47,8 @@ pub first_some-append : {X A : Type 0} (ask : X → Option A) (xs ys : List X)
     → first_some ask (xs ++ ys) ≡ option_or (first_some ask xs) (first_some ask ys)
 first_some-append ask [] ys = refl
 first_some-append ask (x ∷ xs) ys =
-    ap (option_or (ask x)) (first_some-append ask xs ys) ∙ sym (or_joins (ask x) (first_some ask xs) (first_some ask ys))
+    ap (option_or (ask x)) (first_some-append ask xs ys)
+    ∙ sym (or_joins (ask x) (first_some ask xs) (first_some ask ys))
 
 -- ways
 pub ways_joins : (a b c : Ways) → ways_then (ways_then a b) c ≡ ways_then a (ways_then b c)
@@ -133,7 +134,8 @@ field_shrinks bytes one is =
 pub caps_shrink : Shrinks cap_step
 caps_shrink = record {
   less = λ known bytes one is.
-      let first = bind_ok (ok_or (field_at bytes) unspecific) (λ (got : Field × List ℕ). Ok (got.0, tt, got.1)) one is in
+      let first = bind_ok (ok_or (field_at bytes) unspecific)
+      (λ (got : Field × List ℕ). Ok (got.0, tt, got.1)) one is in
       let rest : first.0.1 ≡ one.2 = ap (λ (o : Field × Unit {0} × List ℕ). o.2) (ok_is unspecific _ _ first.2) in
       omega (arith, field_shrinks bytes first.0 (ok_or_some _ _ _ first.1), ap length rest);
 }

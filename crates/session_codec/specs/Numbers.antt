@@ -29,7 +29,8 @@ caps_type = 2
 abbrev pub as_trans : ℕ
 as_trans = 23456
 
--- capabilities (RFC 4760, section 8; RFC 2918, section 2; RFC 8654, section 3; RFC 6793, section 3; RFC 7911, section 4)
+-- capabilities (RFC 4760, section 8; RFC 2918, section 2; RFC 8654, section 3; RFC 6793, section 3; RFC 7911,
+-- section 4)
 abbrev pub cap_family : ℕ
 cap_family = 1
 

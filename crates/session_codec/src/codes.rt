@@ -12,8 +12,8 @@ pub const MIN_HOLD: u16 = 3;
 /// The type of the optional parameter that holds capabilities (RFC 5492, section 4). Other types are refused.
 pub const CAPABILITIES: u8 = 2;
 
-/// Multiprotocol Extensions, a family of which routes are carried (RFC 4760, section 8). Capabilities whose codes aren't
-/// listed here are passed over.
+/// Multiprotocol Extensions, a family of which routes are carried (RFC 4760, section 8). Capabilities of other codes
+/// than these are passed over.
 pub const MULTIPROTOCOL: u8 = 1;
 /// Route Refresh, without a value (RFC 2918, section 2).
 pub const ROUTE_REFRESH: u8 = 2;

@@ -33,8 +33,8 @@ const LEN_AT: usize = 9;
 
 const PARAMETERS_AT: usize = 10;
 
-/// The OPEN that a body says, or the first reason to refuse it, under the own settings (RFC 4271, section 6.2; RFC 5492,
-/// section 5).
+/// The OPEN that a body says, or the first reason to refuse it, under the own settings (RFC 4271, section 6.2;
+/// RFC 5492, section 5).
 ///
 /// The checks come in this order: the version; the optional parameters, from the front; that there is a number of an AS
 /// of four bytes; that it is the configured one; the identifier; the hold time. The AS of two bytes isn't looked at. Of

@@ -6,8 +6,9 @@
 //! | 16     | 2      | 1    | 1       | 2  | 2         | 4          | 1      | length     |
 //! +--------+--------+------+---------+----+-----------+------------+--------+------------+
 //! ```
-//! That is an OPEN (RFC 4271, section 4.2). A NOTIFICATION has a code, a subcode and data behind its type (section 4.5),
-//! a KEEPALIVE has nothing (section 4.4), and a ROUTE-REFRESH has AFI, a reserved byte and SAFI (RFC 2918, section 3).
+//! That is an OPEN (RFC 4271, section 4.2). Behind the type a NOTIFICATION has a code, a subcode and data (RFC 4271,
+//! section 4.5), a KEEPALIVE has nothing (section 4.4), and a ROUTE-REFRESH has AFI, a reserved byte and SAFI
+//! (RFC 2918, section 3).
 ghost use Rattle.std.specs.Prelude.{◌≡◌, ◌+◌, ◌≤◌, [], length};
 ghost use Rattle.update_grammar.specs.Written.{header, message};
 ghost use Rattle.attr_codec.specs.Buffer.{HasRoom, Appended};

@@ -70,7 +70,7 @@ pub const IPV6_REFRESH: &[u8] = &[
     0x00, 0x02, 0x00, 0x01, // IPv6 unicast
 ];
 
-/// The body of an OPEN with one parameter of six bytes, and what answers it.
+// The body of an OPEN with one parameter of six bytes, and what answers it.
 type Refused = (&'static str, [u8; 18], &'static [u8]);
 
 pub const REFUSED: [Refused; 7] = [
