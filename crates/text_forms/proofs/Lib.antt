@@ -5,3 +5,4 @@ pub mod WordLemmas
 pub mod DecimalLemmas
 pub mod AsnLemmas
 pub mod AddressLemmas
+pub mod PrintedLemmas

@@ -4,3 +4,4 @@ pub mod LineTold
 pub mod Words
 pub mod Numbers
 pub mod Addresses
+pub mod Printed

@@ -11,6 +11,7 @@ mod asns;
 mod cutting;
 mod decimals;
 mod lines;
+mod printing;
 mod word;
 
 pub use addresses::{ipv4, ipv4_prefix};
@@ -18,6 +19,10 @@ pub use asns::asn;
 pub use cutting::cut;
 pub use decimals::{half, number, octet};
 pub use lines::{Line, first_line};
+pub use printing::{
+    MAX_IPV4_TEXT, MAX_IPV6_TEXT, MAX_PREFIX_TEXT, MAX_U32_TEXT, MAX_U64_TEXT, put_addr, put_ipv4,
+    put_ipv6, put_prefix, put_u32, put_u64,
+};
 pub use word::{first_word, is_blank, words};
 
 #[cfg(test)]

@@ -1,7 +1,9 @@
 //! Texts that are read and refused, and the lines and words of some bytes.
 use crate::{
-    Line, asn, cut, first_line, first_word, half, ipv4, ipv4_prefix, is_blank, number, octet, words,
+    Line, MAX_IPV6_TEXT, MAX_PREFIX_TEXT, MAX_U64_TEXT, asn, cut, first_line, first_word, half,
+    ipv4, ipv4_prefix, is_blank, number, octet, put_addr, put_prefix, put_u32, put_u64, words,
 };
+use arrayvec::ArrayVec;
 use route_values::{Addr, Prefix};
 use std::test::Fail;
 
@@ -116,6 +118,53 @@ fn a_prefix_has_no_bit_past_its_length(rt: HostRuntime) {
         assert_eq!(rt; prefix.is_some(), value.is_some(), "{text}");
         assert_eq!(rt; ipv4_prefix(text.as_bytes()), prefix, "{text}");
     }
+}
+
+// Addresses of RFC 4291, section 2.2, and of RFC 5737, with all that their texts show of leading zeros.
+const PRINTED: [(Addr, &str); 7] = [
+    (Addr::V4(0), "0.0.0.0"),
+    (Addr::V4(0xc000_0201), "192.0.2.1"),
+    (Addr::V4(0xffff_ffff), "255.255.255.255"),
+    (Addr::V6(0), "0:0:0:0:0:0:0:0"),
+    (Addr::V6(1), "0:0:0:0:0:0:0:1"),
+    (
+        Addr::V6(0x2001_0db8_0000_0000_0008_0800_200c_417a),
+        "2001:db8:0:0:8:800:200c:417a",
+    ),
+    (
+        Addr::V6(0xabcd_ef01_2345_6789_abcd_ef01_2345_6789),
+        "abcd:ef01:2345:6789:abcd:ef01:2345:6789",
+    ),
+];
+
+#[test]
+fn an_address_is_printed_in_lower_case_without_leading_zeros(rt: HostRuntime) {
+    for (addr, text) in PRINTED {
+        let mut out = ArrayVec::<u8, MAX_IPV6_TEXT>::new();
+        put_addr(addr, &mut out);
+        assert_eq!(rt; out.as_slice(), text.as_bytes());
+    }
+}
+
+#[test]
+fn what_is_printed_stands_behind_what_the_buffer_holds(rt: HostRuntime) {
+    let mut out = ArrayVec::<u8, 256>::new();
+    put_u32(4_294_967_295, &mut out);
+    out.push(b' ');
+    put_u32(0, &mut out);
+    out.push(b' ');
+    if let Some(prefix) = Prefix::new(Addr::V4(0x0a00_0001), 32) {
+        put_prefix(&prefix, &mut out);
+    }
+    assert_eq!(rt; out.as_slice(), b"4294967295 0 10.0.0.1/32".as_slice());
+    let mut longest = ArrayVec::<u8, MAX_U64_TEXT>::new();
+    put_u64(18_446_744_073_709_551_615, &mut longest);
+    assert_eq!(rt; longest.as_slice(), b"18446744073709551615".as_slice());
+    let mut default_route = ArrayVec::<u8, MAX_PREFIX_TEXT>::new();
+    if let Some(prefix) = Prefix::new(Addr::V6(0), 0) {
+        put_prefix(&prefix, &mut default_route);
+    }
+    assert_eq!(rt; default_route.as_slice(), b"0:0:0:0:0:0:0:0/0".as_slice());
 }
 
 #[test]
