@@ -6,3 +6,5 @@ pub mod DecimalLemmas
 pub mod AsnLemmas
 pub mod AddressLemmas
 pub mod PrintedLemmas
+pub mod Ipv6Lemmas
+pub mod Ipv6ReadLemmas

@@ -5,3 +5,4 @@ pub mod Words
 pub mod Numbers
 pub mod Addresses
 pub mod Printed
+pub mod Ipv6

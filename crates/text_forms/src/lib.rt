@@ -10,6 +10,8 @@ mod addresses;
 mod asns;
 mod cutting;
 mod decimals;
+mod groups;
+mod ipv6_texts;
 mod lines;
 mod printing;
 mod word;
@@ -18,6 +20,7 @@ pub use addresses::{ipv4, ipv4_prefix};
 pub use asns::asn;
 pub use cutting::cut;
 pub use decimals::{half, number, octet};
+pub use ipv6_texts::ipv6;
 pub use lines::{Line, first_line};
 pub use printing::{
     MAX_IPV4_TEXT, MAX_IPV6_TEXT, MAX_PREFIX_TEXT, MAX_U32_TEXT, MAX_U64_TEXT, put_addr, put_ipv4,
