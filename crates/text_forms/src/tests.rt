@@ -1,7 +1,7 @@
 //! Texts that are read and refused, and the lines and words of some bytes.
 use crate::{
     Line, MAX_IPV6_TEXT, MAX_PREFIX_TEXT, MAX_U64_TEXT, asn, cut, first_line, first_word, half,
-    ipv4, ipv4_prefix, is_blank, number, octet, put_addr, put_prefix, put_u32, put_u64, words,
+    ipv4, ipv4_prefix, ipv6, is_blank, number, octet, put_addr, put_prefix, put_u32, put_u64, words,
 };
 use arrayvec::ArrayVec;
 use route_values::{Addr, Prefix};
