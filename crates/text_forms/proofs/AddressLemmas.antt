@@ -13,7 +13,7 @@ use Rattle.text_forms.proofs.DecimalLemmas.{number_one}
 dotless : (number : ℕ) → number < 256 → Lacks 46 (decimal number)
 dotless number small = lacks_decimal 46 number dot_no_digit (omega arith)
 
-byte_one : (byte other : ℕ) → byte < 256 → other < 256 → decimal byte ≡ decimal other → byte ≡ other
+pub byte_one : (byte other : ℕ) → byte < 256 → other < 256 → decimal byte ≡ decimal other → byte ≡ other
 byte_one byte other small other_small same = number_one (decimal byte) byte other (omega arith) (omega arith) refl same
 
 -- what a text spells before its first dot, and what follows that dot
@@ -74,13 +74,13 @@ ipv4_one text other number is also =
     let last = byte_one is.fourth also.fourth is.fourth_small also.fourth_small third.1 in
     omega (arith, is.value, also.value, first.0, second.0, third.0, last)
 
-abbrev block_of : Addr → ℕ → Block
+abbrev pub block_of : Addr → ℕ → Block
 block_of addr len = record { addr = addr; len = len }
 
 block_of-same : (addr addr' : Addr) (len len' : ℕ) → addr ≡ addr' → len ≡ len' → block_of addr len ≡ block_of addr' len'
 block_of-same addr addr' len len' addrs lens = cc
 
-same_block : (block block' : Block) → block.addr ≡ block'.addr → block.len ≡ block'.len → block ≡ block'
+pub same_block : (block block' : Block) → block.addr ≡ block'.addr → block.len ≡ block'.len → block ≡ block'
 same_block block block' addrs lens = block_of-same block.addr block'.addr block.len block'.len addrs lens
 
 -- what stands before and behind the slash is spelled once

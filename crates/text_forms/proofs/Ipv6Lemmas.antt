@@ -1,5 +1,6 @@
 -- IPv6 addresses as texts: what is read of a text, and that it is read in one way.
-use Rattle.std.proofs.Common.{ℕ, zero, suc, ◌≡◌, ◌≢◌, ◌<◌, ◌≤◌, ◌+◌, ◌*◌, ◌^◌, List, [], ◌∷◌, ◌++◌, length, replicate, All, decimal, get_or, take}
+use Rattle.std.proofs.Common.{ℕ, zero, suc, ◌≡◌, ◌≢◌, ◌<◌, ◌≤◌, ◌+◌, ◌*◌, ◌^◌, List, [], ◌∷◌, ◌++◌, length, replicate}
+use Rattle.std.proofs.Common.{All, decimal, get_or, take}
 use Rattle.std.proofs.Common.{arith, ap, sym, ◌∙◌, refl, subst, inl, inr, append_assoc, append-nil, length-append}
 use Rattle.std.proofs.lemmas.List.{length-replicate, take-replicate}
 use Rattle.std.proofs.lemmas.List.Elements.{All-from_recursion}
@@ -13,7 +14,7 @@ use Rattle.text_forms.proofs.CutLemmas.{Lacks, first_same, lacks_from_all, lacks
 use Rattle.text_forms.proofs.AddressLemmas.{ipv4_one, ipv4_lacks, ipv4_filled}
 
 -- no hexadecimal digit is such a byte
-digits_lack : (byte : ℕ) (text : List ℕ) → 16 ≤ digit_value byte → AllDigits 16 text → Lacks byte text
+pub digits_lack : (byte : ℕ) (text : List ℕ) → 16 ≤ digit_value byte → AllDigits 16 text → Lacks byte text
 digits_lack byte [] large digits = tt
 digits_lack byte (b ∷ bs) large digits =
     ((λ same. absurd (omega (arith, digits.0, large, ap digit_value same))), digits_lack byte bs large digits.1)
@@ -35,7 +36,8 @@ stops_front [] tail (inr begins) lacks filled = absurd (omega (arith, filled))
 stops_front (b ∷ bs) tail (inr begins) lacks filled = lacks.0 (cc (begins.1))
 
 -- a text that has a group with `:` behind it goes on
-pub stops_led : (text front tail : List ℕ) (group : ℕ) → Stops text → text ≡ front ++ 58 ∷ tail → IsGroup front group → ⊥
+pub stops_led : (text front tail : List ℕ) (group : ℕ) → Stops text → text ≡ front ++ 58 ∷ tail → IsGroup front group
+    → ⊥
 stops_led text front tail group stops is led =
     stops_front front tail (subst Stops is stops) (group_lacks_colon front group led) led.numeral.0
 
@@ -118,7 +120,8 @@ no_ninth_group text groups rest front after is cut lacks filled many groups' res
 end_lacks : (text last : List ℕ) → IsEnd text last → Lacks 58 text
 end_lacks text [] is = absurd is
 end_lacks text (group ∷ []) is = group_lacks_colon text group is
-end_lacks text (high ∷ low ∷ []) is = ipv4_lacks 58 text (high * 65536 + low) (λ digit. absurd (cc)) (λ dot. absurd (omega (arith, dot))) is.dotted
+end_lacks text (high ∷ low ∷ []) is = ipv4_lacks 58 text (high * 65536 + low) (λ digit. absurd (cc))
+    (λ dot. absurd (omega (arith, dot))) is.dotted
 end_lacks text (a ∷ b ∷ c ∷ more) is = absurd is
 
 pub end_stops : (text last : List ℕ) → IsEnd text last → Stops text

@@ -8,3 +8,5 @@ pub mod AddressLemmas
 pub mod PrintedLemmas
 pub mod Ipv6Lemmas
 pub mod Ipv6ReadLemmas
+pub mod FamilyLemmas
+pub mod SpelledLemmas

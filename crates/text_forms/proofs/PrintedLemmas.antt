@@ -1,6 +1,8 @@
 -- Groups of hexadecimal digits as they are printed.
-use Rattle.std.proofs.Common.{ℕ, suc, ◌≡◌, ◌<◌, ◌≤◌, ◌+◌, ◌/◌, ◌%◌, false, cond, List, [], ◌∷◌, ◌++◌, arith, ap, sym, ◌∙◌, refl}
-use Rattle.std.proofs.Common.{append_assoc, eq-eqb, ne_eqb}
+use Rattle.std.proofs.Common.{ℕ, suc, ◌≡◌, ◌<◌, ◌≤◌, ◌+◌, ◌/◌, ◌%◌, false, cond, List, [], ◌∷◌, ◌++◌, arith, ap, sym}
+use Rattle.std.proofs.Common.{◌∙◌, refl}
+use Rattle.std.proofs.Common.{append_assoc, eq-eqb, ne_eqb, length, ⊎_elim}
+use Rattle.std.proofs.lemmas.Bool.{cases_lt}
 use Rattle.std.specs.Fmt.{digits, digits_onto, digit_glyph}
 use Rattle.text_forms.specs.Printed.{group_at, group_text, padded_group, led_groups}
 
@@ -13,7 +15,8 @@ abbrev onto : ℕ → ℕ → List ℕ → List ℕ
 onto k n acc = digits_onto k 16 false n acc
 
 onto_last : (k n : ℕ) (acc : List ℕ) → n < 16 → onto (suc k) n acc ≡ glyph n ∷ acc
-onto_last k n acc small = ap (λ t. cond t (glyph n ∷ acc) (onto k (n / 16) (glyph n ∷ acc))) (eq-eqb (n / 16) 0 (omega arith))
+onto_last k n acc small = ap (λ t. cond t (glyph n ∷ acc) (onto k (n / 16) (glyph n ∷ acc)))
+    (eq-eqb (n / 16) 0 (omega arith))
 
 onto_next : (k n : ℕ) (acc : List ℕ) → 16 ≤ n → onto (suc k) n acc ≡ onto k (n / 16) (glyph n ∷ acc)
 onto_next k n acc large =
@@ -48,11 +51,20 @@ four_digits n large small =
     ∙ ap (λ d. digit_glyph false d ∷ glyph (n / 16 / 16) ∷ glyph (n / 16) ∷ glyph n ∷ []) top
     ∙ ap (λ d. digit_glyph false (n / 4096) ∷ digit_glyph false d ∷ glyph (n / 16) ∷ glyph n ∷ []) next
 
+-- a group takes four digits at most
+pub group_text-short : (n : ℕ) → n < 65536 → length (group_text n) ≤ 4
+group_text-short n small =
+    ⊎_elim (λ (is : n < 16). omega (arith, ap length (one_digit n is)))
+    (λ (least : 16 ≤ n). ⊎_elim (λ (is : n < 256). omega (arith, ap length (two_digits n least is)))
+    (λ (more : 256 ≤ n). ⊎_elim (λ (is : n < 4096). omega (arith, ap length (three_digits n more is)))
+    (λ (most : 4096 ≤ n). omega (arith, ap length (four_digits n most small)))
+    (cases_lt n 4096)) (cases_lt n 256)) (cases_lt n 16)
+
 pub led_groups-none : (n : ℕ) → led_groups 0 n ≡ []
 unfolding led_groups
 led_groups-none n = refl
 
-led_groups-step : (k n : ℕ) → led_groups (suc k) n ≡ 58 ∷ (group_text (group_at k n) ++ led_groups k n)
+pub led_groups-step : (k n : ℕ) → led_groups (suc k) n ≡ 58 ∷ (group_text (group_at k n) ++ led_groups k n)
 unfolding led_groups
 led_groups-step k n = refl
 

@@ -6,3 +6,4 @@ pub mod Numbers
 pub mod Addresses
 pub mod Printed
 pub mod Ipv6
+pub mod Families

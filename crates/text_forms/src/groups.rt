@@ -1,5 +1,6 @@
 //! The groups of an IPv6 address as texts.
-ghost use Rattle.std.specs.Prelude.{◌≡◌, ◌≢◌, ◌+◌, ◌<◌, ◌≤◌, ◌++◌, ◌∷◌, [], ℕ, List, length, IfSome, IfNone};
+ghost use Rattle.std.specs.Prelude.{◌≡◌, ◌≢◌, ◌+◌, ◌<◌, ◌≤◌, ◌++◌, ◌∷◌, [], ℕ, List, length};
+ghost use Rattle.std.specs.Prelude.{IfSome, IfNone};
 ghost use Rattle.std.specs.Char.{digit_value};
 ghost use Rattle.std.specs.Option.{SomeIff};
 ghost use Rattle.std.specs.Str.Parse.{AllDigits, digits_value};
@@ -65,7 +66,8 @@ pub(crate) fn ended(groups: ArrayVec<u16, GROUPS>, text: &[u8]) -> Option<ArrayV
 fn with_group(groups: ArrayVec<u16, GROUPS>, text: &[u8]) -> Option<ArrayVec<u16, GROUPS>>
     ensures found { IfSome result (λ all. (last : ℕ) × IsGroup text.now last
         × (all.items ≡ groups.items ++ last ∷ [])) }
-    ensures none { IfNone result ((last : ℕ) → length groups.items < 8 → IsGroup text.now last → ⊥) }
+    ensures none { IfNone result ((last : ℕ) → length groups.items < 8 → IsGroup text.now last
+        → ⊥) }
 {
     let number = group(text)?;
     if groups.is_full() {

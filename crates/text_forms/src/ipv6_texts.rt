@@ -1,5 +1,6 @@
 //! IPv6 addresses as texts (RFC 4291, section 2.2).
-ghost use Rattle.std.specs.Prelude.{◌≡◌, ◌≢◌, ◌+◌, ◌*◌, ◌<◌, ◌≤◌, ◌++◌, ◌∷◌, [], ℕ, List, length, replicate};
+ghost use Rattle.std.specs.Prelude.{◌≡◌, ◌≢◌, ◌+◌, ◌*◌, ◌<◌, ◌≤◌, ◌++◌, ◌∷◌, [], ℕ, List, length};
+ghost use Rattle.std.specs.Prelude.{replicate};
 ghost use Rattle.std.specs.Prelude.{IfSome, IfNone};
 ghost use Rattle.text_forms.specs.Ipv6.{AreBehind, IsEnd, IsFilled, IsIpv6, SpellNumber};
 
@@ -73,7 +74,8 @@ fn shortened(before: ArrayVec<u16, GROUPS>, back: &[u8]) -> Option<u128>
 // The groups of a text behind `::`.
 fn groups_behind(back: &[u8]) -> Option<ArrayVec<u16, GROUPS>>
     ensures found { IfSome result (λ groups. AreBehind back.now groups.items) }
-    ensures none { IfNone result ((groups : List ℕ) → length groups ≤ 8 → AreBehind back.now groups → ⊥) }
+    ensures none { IfNone result ((groups : List ℕ) → length groups ≤ 8 → AreBehind back.now groups
+        → ⊥) }
 {
     if back.is_empty() {
         return Some(ArrayVec::new());

@@ -1,7 +1,8 @@
 //! Texts that are read and refused, and the lines and words of some bytes.
 use crate::{
-    Line, MAX_IPV6_TEXT, MAX_PREFIX_TEXT, MAX_U64_TEXT, asn, cut, first_line, first_word, half,
-    ipv4, ipv4_prefix, ipv6, is_blank, number, octet, put_addr, put_prefix, put_u32, put_u64, words,
+    Line, MAX_IPV6_TEXT, MAX_PREFIX_TEXT, MAX_U64_TEXT, addr, asn, cut, first_line, first_word,
+    half, ipv4, ipv4_prefix, ipv6, is_blank, number, octet, prefix, put_addr, put_prefix, put_u32,
+    put_u64, words,
 };
 use arrayvec::ArrayVec;
 use route_values::{Addr, Prefix};
@@ -234,6 +235,33 @@ fn what_is_printed_stands_behind_what_the_buffer_holds(rt: HostRuntime) {
         put_prefix(&prefix, &mut default_route);
     }
     assert_eq!(rt; default_route.as_slice(), b"0:0:0:0:0:0:0:0/0".as_slice());
+}
+
+const PREFIXES_OF_BOTH: [(&str, Option<(Addr, u8)>); 9] = [
+    ("10.0.0.0/24", Some((Addr::V4(0x0a00_0000), 24))),
+    ("10.0.0.1", Some((Addr::V4(0x0a00_0001), 32))),
+    (
+        "2001:DB8::/32",
+        Some((Addr::V6(0x2001_0db8_0000_0000_0000_0000_0000_0000), 32)),
+    ),
+    ("::/0", Some((Addr::V6(0), 0))),
+    ("::1", Some((Addr::V6(1), 128))),
+    ("::1/128", Some((Addr::V6(1), 128))),
+    ("::1/127", None),
+    ("::/129", None),
+    ("10.0.0.0/33", None),
+];
+
+#[test]
+fn an_address_and_a_prefix_are_of_either_family(rt: HostRuntime) {
+    assert_eq!(rt; addr(b"192.0.2.1"), Some(Addr::V4(0xc000_0201)));
+    assert_eq!(rt; addr(b"::1"), Some(Addr::V6(1)));
+    assert_eq!(rt; addr(b"1"), None);
+    for (text, value) in PREFIXES_OF_BOTH {
+        let wanted = value.and_then(|(addr, len)| Prefix::new(addr, len));
+        assert_eq!(rt; wanted.is_some(), value.is_some(), "{text}");
+        assert_eq!(rt; prefix(text.as_bytes()), wanted, "{text}");
+    }
 }
 
 #[test]

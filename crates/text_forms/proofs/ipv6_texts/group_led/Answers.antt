@@ -10,7 +10,8 @@ returns-in_err-groups-clause-none c =
 pub returns-in-Some-clause-none : goal.returns-in-Some-clause-none
 returns-in-Some-clause-none c =
     none_map c.shortened.result _ _
-    (λ none other is. no_cut c.args.text.now c.in_ok-groups.groups.items c.in_ok-groups.rest.now c.in-Some.back.now other
+    (λ none other is. no_cut c.args.text.now c.in_ok-groups.groups.items c.in_ok-groups.rest.now c.in-Some.back.now
+    other
     c.requires c.in_ok-groups.ensures.found c.in-Some.ensures.found none is)
     c.shortened.ensures.none
 
