@@ -1,6 +1,7 @@
 -- Addresses and prefixes as texts.
 use Rattle.std.proofs.Common.{ℕ, ◌≡◌, ◌≢◌, ◌<◌, ◌≤◌, List, ◌∷◌, ◌++◌, All, decimal, arith, ap, sym, ◌∙◌, refl}
-use Rattle.std.proofs.Common.{subst, inl, inr}
+use Rattle.std.proofs.Common.{subst, inl, inr, true, length, length-append}
+use Rattle.std.specs.Char.{is_ascii_digit}
 use Rattle.route_values.specs.declared.addr.Addr.{Addr}
 use Rattle.route_values.specs.declared.addr.Addr.TheVariants.{V4}
 use Rattle.route_values.specs.Prefix.{Block, IsPrefix}
@@ -12,10 +13,7 @@ use Rattle.text_forms.proofs.DecimalLemmas.{number_one}
 dotless : (number : ℕ) → number < 256 → Lacks 46 (decimal number)
 dotless number small = lacks_decimal 46 number dot_no_digit (omega arith)
 
-slashless : (number : ℕ) → number < 256 → Lacks 47 (decimal number)
-slashless number small = lacks_decimal 47 number slash_no_digit (omega arith)
-
-byte_one : (byte other : ℕ) → byte < 256 → other < 256 → decimal byte ≡ decimal other → byte ≡ other
+pub byte_one : (byte other : ℕ) → byte < 256 → other < 256 → decimal byte ≡ decimal other → byte ≡ other
 byte_one byte other small other_small same = number_one (decimal byte) byte other (omega arith) (omega arith) refl same
 
 -- what a text spells before its first dot, and what follows that dot
@@ -38,20 +36,34 @@ pub leading_none : (text : List ℕ) (number : ℕ) (tail : List ℕ) → All (�
 leading_none text number tail lacks is =
     lacks_none 46 (decimal number) tail (subst (Lacks 46) is (lacks_from_all 46 text lacks))
 
-dot_no_slash : ◌≡◌ {A = ℕ} 46 47 → ⊥
-dot_no_slash same = absurd (omega (arith, same))
+-- a byte that is no digit and no dot stands in no address's text
+pub ipv4_lacks : (byte : ℕ) (text : List ℕ) (number : ℕ) → (is_ascii_digit byte ≡ true → ⊥) → (46 ≡ byte → ⊥)
+    → IsIpv4 text number → Lacks byte text
+ipv4_lacks byte text number no_digit no_dot is =
+    let part : (n : ℕ) → n < 256 → Lacks byte (decimal n) = λ n small. lacks_decimal byte n no_digit (omega arith) in
+    subst (Lacks byte) (sym is.text_is)
+    (lacks_append byte _ _ (part is.first is.first_small) (
+      no_dot,
+      lacks_append byte _ _ (part is.second is.second_small) (
+        no_dot,
+        lacks_append byte _ _ (part is.third is.third_small) (no_dot, part is.fourth is.fourth_small),
+      ),
+    ))
 
 -- an address's text has no slash
 ipv4_slashless : (text : List ℕ) (number : ℕ) → IsIpv4 text number → Lacks 47 text
 ipv4_slashless text number is =
-    subst (Lacks 47) (sym is.text_is)
-    (lacks_append 47 _ _ (slashless is.first is.first_small) (
-      dot_no_slash,
-      lacks_append 47 _ _ (slashless is.second is.second_small) (
-        dot_no_slash,
-        lacks_append 47 _ _ (slashless is.third is.third_small) (dot_no_slash, slashless is.fourth is.fourth_small),
-      ),
-    ))
+    ipv4_lacks 47 text number slash_no_digit (λ same. absurd (omega (arith, same))) is
+
+-- an address's text isn't empty
+pub ipv4_filled : (text : List ℕ) (number : ℕ) → IsIpv4 text number → 0 < length text
+ipv4_filled text number is =
+    omega (
+      arith,
+      ap length is.text_is,
+      length-append (decimal is.first)
+          (46 ∷ (decimal is.second ++ 46 ∷ (decimal is.third ++ 46 ∷ decimal is.fourth))),
+    )
 
 -- a text spells one address at most
 pub ipv4_one : (text : List ℕ) (other number : ℕ) → IsIpv4 text other → IsIpv4 text number → other ≡ number
@@ -62,13 +74,13 @@ ipv4_one text other number is also =
     let last = byte_one is.fourth also.fourth is.fourth_small also.fourth_small third.1 in
     omega (arith, is.value, also.value, first.0, second.0, third.0, last)
 
-abbrev block_of : Addr → ℕ → Block
+abbrev pub block_of : Addr → ℕ → Block
 block_of addr len = record { addr = addr; len = len }
 
 block_of-same : (addr addr' : Addr) (len len' : ℕ) → addr ≡ addr' → len ≡ len' → block_of addr len ≡ block_of addr' len'
 block_of-same addr addr' len len' addrs lens = cc
 
-same_block : (block block' : Block) → block.addr ≡ block'.addr → block.len ≡ block'.len → block ≡ block'
+pub same_block : (block block' : Block) → block.addr ≡ block'.addr → block.len ≡ block'.len → block ≡ block'
 same_block block block' addrs lens = block_of-same block.addr block'.addr block.len block'.len addrs lens
 
 -- what stands before and behind the slash is spelled once

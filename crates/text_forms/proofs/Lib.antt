@@ -5,3 +5,8 @@ pub mod WordLemmas
 pub mod DecimalLemmas
 pub mod AsnLemmas
 pub mod AddressLemmas
+pub mod PrintedLemmas
+pub mod Ipv6Lemmas
+pub mod Ipv6ReadLemmas
+pub mod FamilyLemmas
+pub mod SpelledLemmas

@@ -4,3 +4,6 @@ pub mod LineTold
 pub mod Words
 pub mod Numbers
 pub mod Addresses
+pub mod Printed
+pub mod Ipv6
+pub mod Families
