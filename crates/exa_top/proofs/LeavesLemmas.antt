@@ -14,7 +14,7 @@ use Rattle.route_values.proofs.KeyLemmas.{same_block_is, same_block-self}
 use Rattle.update_grammar.specs.declared.effect.Effect.{Effect}
 use Rattle.update_grammar.specs.declared.effect.Effect.TheVariants.{Here}
 use Rattle.update_grammar.specs.Net.{later_of, last_word, effect_says, net}
-use Rattle.exa_top.proofs.NetLemmas.{later_none, last_word-append}
+use Rattle.update_grammar.proofs.NetLemmas.{later_none, last_word-append}
 use Rattle.exa_top.specs.Answers.{Entry, entry_says, hop_wanted}
 use Rattle.exa_top.specs.Encoding.{sent_for, wanted}
 use Rattle.exa_top.specs.Messages.{key_of}

@@ -1,7 +1,6 @@
 pub mod CommandLemmas
 pub mod EncodingLemmas
 pub mod LeavesLemmas
-pub mod NetLemmas
 pub mod SendingLemmas
 pub mod SlotLemmas
 pub mod TookLemmas

@@ -10,7 +10,7 @@ use Rattle.text_forms.specs.Addresses.{IsIpv4}
 use Rattle.text_forms.specs.Lines.{Line, Text, TooLong, lines}
 use Rattle.text_forms.specs.Words.{words_of}
 use Rattle.update_grammar.specs.Net.{last_word, later_of}
-use Rattle.exa_top.proofs.NetLemmas.{last_word-push}
+use Rattle.update_grammar.proofs.NetLemmas.{last_word-push}
 use Rattle.exa_top.specs.declared.answering.Reply.{Reply}
 use Rattle.exa_top.specs.declared.answering.Reply.TheVariants as reply
 use Rattle.exa_top.specs.declared.command.Command.{Command}

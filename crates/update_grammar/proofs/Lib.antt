@@ -24,3 +24,4 @@ pub mod HereLemmas
 pub mod GoneLemmas
 pub mod MarkerLemmas
 pub mod BlamesLemmas
+pub mod NetLemmas

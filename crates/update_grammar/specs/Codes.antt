@@ -110,3 +110,10 @@ ipv6_hops_len = 32
 -- how many bytes a path identifier has (RFC 7911, section 3)
 abbrev pub id_len : ℕ
 id_len = 4
+
+-- the most bytes that a message has (RFC 4271, section 4.1), and where extended ones were agreed (RFC 8654, section 3)
+abbrev pub message_max : ℕ
+message_max = 4096
+
+abbrev pub extended_max : ℕ
+extended_max = 65535

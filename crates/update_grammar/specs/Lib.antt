@@ -9,6 +9,7 @@ pub mod Update
 pub mod Head
 pub mod Written
 pub mod Net
+pub mod Packed
 pub mod Laws
 pub mod Steps
 pub mod ReadPrefixes

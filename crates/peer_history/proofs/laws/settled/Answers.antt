@@ -1,0 +1,9 @@
+use Rattle.peer_history.proofs.BatchLemmas.{settled}
+use Rattle.peer_history.proofs.laws.settled.Goals as goal
+
+pub returns : goal.returns
+returns c = settled (record {
+  read = c.reading_is_spelling.ensures.effects_only;
+  here_is_no_marker = c.written_is_spelled.ensures.here_is_no_marker;
+  gone_is_no_marker = c.written_is_spelled.ensures.gone_is_no_marker;
+})

@@ -1,0 +1,10 @@
+pub mod Same
+pub mod Keys
+pub mod Steps
+pub mod Table
+pub mod Messages
+pub mod Sessions
+pub mod Batches
+pub mod Cuts
+pub mod Nodes
+pub mod Laws
