@@ -1,9 +1,10 @@
 -- A stream that is cut into lines while it comes.
 use Rattle.std.proofs.Common.{ℕ, suc, ◌≡◌, ◌==◌, ◌≤◌, ◌<◌, Bool, true, false, cond, ltb, List, [], ◌∷◌, ◌++◌, length, take}
-use Rattle.std.proofs.Common.{Option, Some, None, ap, sym, ◌∙◌, refl, subst, arith, append_assoc, inl, inr}
+use Rattle.std.proofs.Common.{drop}
+use Rattle.std.proofs.Common.{Option, Some, None, ap, sym, ◌∙◌, refl, subst, arith, append_assoc, inl, inr, ◌⊎◌}
 use Rattle.std.specs.Option.{option_to_list}
 use Rattle.std.proofs.lemmas.Bool.{eqb-true, ltb-false}
-use Rattle.std.proofs.lemmas.List.{append-nil, take_all}
+use Rattle.std.proofs.lemmas.List.{append-nil, take_all, take-append-drop}
 use Rattle.text_forms.specs.Lines.{Line, Text, TooLong, without_return, is_blank_part, line_or_none, lines}
 use Rattle.line_cutter.specs.Contents.{content_of, is_blank_content}
 use Rattle.line_cutter.specs.Unfinished.{unfinished}
@@ -145,3 +146,93 @@ cut_passes taken passed now cut =
 -- at the beginning nothing was taken
 pub cut_begins : HasCut [] [] fresh
 cut_begins = record { lines_are = refl; rest_is = sym (grown_none fresh) }
+
+-- A worker takes the lines of a piece one by one, and this rest is left: what had come before is followed by what is
+-- gone of the piece.
+pub record IsTaking (piece : List ℕ) (before : List Line) (first : Cutting) (rest : List ℕ) (passed : List Line)
+    (now : Cutting) : Type 0 where
+  pub none : standing now ≡ None
+  pub gone : List ℕ
+  pub piece_is : piece ≡ gone ++ rest
+  pub cut : (front : List ℕ) → HasCut front before first → HasCut (front ++ gone) passed now
+
+pub taking_none : (piece : List ℕ) (before : List Line) (first : Cutting) → standing first ≡ None
+    → IsTaking piece before first piece before first
+taking_none piece before first none = record {
+  none = none;
+  gone = [];
+  piece_is = refl;
+  cut = λ front cut. takes_none front before first cut;
+}
+
+-- bytes of the rest are taken
+fed_front : (front gone rest : List ℕ) (passed : List Line) (now : Cutting) → HasCut (front ++ gone) passed now
+    → HasCut (front ++ (gone ++ take (count_of rest now) rest)) passed (fed rest now)
+fed_front front gone rest passed now cut =
+    subst (λ (bytes : List ℕ). HasCut bytes passed (fed rest now))
+    (append_assoc front gone (take (count_of rest now) rest)) (cut_takes (front ++ gone) passed now rest cut)
+
+-- a line stands then, and is passed
+taking_more : (piece : List ℕ) (before : List Line) (first : Cutting) (rest : List ℕ) (passed : List Line)
+    (now : Cutting) (line : Line) → IsTaking piece before first rest passed now → standing (fed rest now) ≡ Some line
+    → IsTaking piece before first (drop (count_of rest now) rest) (passed ++ line ∷ []) (advanced (fed rest now))
+taking_more piece before first rest passed now line taking stands =
+    let count : ℕ = count_of rest now in
+    let then : Cutting = fed rest now in
+    record {
+      none = (advanced_at then then.ended refl).0;
+      gone = taking.gone ++ take count rest;
+      piece_is = taking.piece_is ∙ ap (λ (bytes : List ℕ). taking.gone ++ bytes) (sym (take-append-drop count rest))
+          ∙ sym (append_assoc taking.gone (take count rest) (drop count rest));
+      cut = λ front cut.
+          subst (λ (line : Option Line). HasCut (front ++ (taking.gone ++ take count rest))
+          (passed ++ option_to_list line) (advanced then)) stands
+          (cut_passes (front ++ (taking.gone ++ take count rest)) passed then
+          (fed_front front taking.gone rest passed now (taking.cut front cut)));
+    }
+
+-- none stands then, and the whole piece is gone
+taking_ends : (piece : List ℕ) (before : List Line) (first : Cutting) (rest : List ℕ) (passed : List Line)
+    (now : Cutting) → IsTaking piece before first rest passed now → count_of rest now ≡ length rest
+    → (front : List ℕ) → HasCut front before first → HasCut (front ++ piece) passed (fed rest now)
+taking_ends piece before first rest passed now taking all front cut =
+    subst (λ (bytes : List ℕ). HasCut (front ++ bytes) passed (fed rest now))
+    (ap (λ (bytes : List ℕ). taking.gone ++ bytes) (take_all (count_of rest now) rest (omega arith))
+    ∙ sym taking.piece_is)
+    (fed_front front taking.gone rest passed now (taking.cut front cut))
+
+-- the same, of what a worker's calls answered
+pub taking_next : (piece : List ℕ) (before : List Line) (first : Cutting) (rest : List ℕ) (passed : List Line)
+    (now : Cutting) (line : Line) (count : ℕ) (left : List ℕ) (passed' : List Line) (then now' : Cutting)
+    → IsTaking piece before first rest passed now → count ≡ count_of rest now → then ≡ fed rest now
+    → left ≡ drop count rest → Some line ≡ standing then → passed' ≡ passed ++ line ∷ [] → now' ≡ advanced then
+    → IsTaking piece before first left passed' now'
+taking_next piece before first rest passed now line count left passed' then now' taking counted is left_is stands took
+    passes =
+    let more = taking_more piece before first rest passed now line taking (ap standing (sym is) ∙ sym stands) in
+    let behind : drop (count_of rest now) rest ≡ left = sym (left_is ∙ ap (λ n. drop n rest) counted) in
+    subst (IsTaking piece before first left passed') (sym (passes ∙ ap advanced is))
+    (subst (λ (lines : List Line). IsTaking piece before first left lines (advanced (fed rest now))) (sym took)
+    (subst (λ (bytes : List ℕ). IsTaking piece before first bytes (passed ++ line ∷ []) (advanced (fed rest now)))
+    behind more))
+
+not_ended : (now : Cutting) (ended : Bool) → now.ended ≡ ended → standing now ≡ None → now.ended ≡ false
+not_ended now true is none =
+    absurd (let some : standing now ≡ Some (cond now.long TooLong (Text (without_return now.bytes))) =
+    ap (λ ended. cond ended (Some (cond now.long TooLong (Text (without_return now.bytes)))) None) is in cc)
+not_ended now false is none = is
+
+all_taken : (count len : ℕ) (ended : Bool) → (count ≡ len) ⊎ (ended ≡ true) → ended ≡ false → count ≡ len
+all_taken count len ended (inl all) open_now = all
+all_taken count len ended (inr stands) open_now = absurd (cc)
+
+pub taking_end : (piece : List ℕ) (before : List Line) (first : Cutting) (rest : List ℕ) (passed : List Line)
+    (now : Cutting) (count : ℕ) (then : Cutting) → IsTaking piece before first rest passed now
+    → count ≡ count_of rest now → then ≡ fed rest now → (count ≡ length rest) ⊎ (then.ended ≡ true)
+    → None ≡ standing then → (front : List ℕ) → HasCut front before first → HasCut (front ++ piece) passed then
+taking_end piece before first rest passed now count then taking counted is whole none front cut =
+    let open_now : then.ended ≡ false = not_ended then then.ended refl (sym none) in
+    let all : count_of rest now ≡ length rest =
+    sym counted ∙ all_taken count (length rest) then.ended whole open_now in
+    subst (HasCut (front ++ piece) passed) (sym is)
+    (taking_ends piece before first rest passed now taking all front cut)

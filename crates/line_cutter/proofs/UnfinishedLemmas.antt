@@ -109,9 +109,11 @@ lines_other bytes c other = ap (flat_map line_or_none) (ended_other bytes c othe
 stays_behind : (bytes more : List ℕ) (c : ℕ) (made : List Line) → lines (bytes ++ c ∷ []) ≡ lines bytes ++ made
     → (others : List Line) × (lines ((bytes ++ c ∷ []) ++ more) ≡ lines (bytes ++ c ∷ []) ++ others)
     → (others : List Line) × (lines (bytes ++ c ∷ more) ≡ lines bytes ++ others)
-stays_behind bytes more c made here later =
-    (made ++ later.0, ap lines (sym (append_assoc bytes (c ∷ []) more)) ∙ later.1
-    ∙ ap (λ (front : List Line). front ++ later.0) here ∙ append_assoc (lines bytes) made later.0)
+stays_behind bytes more c made here later = (
+  made ++ later.0,
+  ap lines (sym (append_assoc bytes (c ∷ []) more)) ∙ later.1
+      ∙ ap (λ (front : List Line). front ++ later.0) here ∙ append_assoc (lines bytes) made later.0,
+)
 
 stays_at : (bytes more : List ℕ) (c : ℕ) (feed : Bool) → (c == 10) ≡ feed
     → (others : List Line) × (lines ((bytes ++ c ∷ []) ++ more) ≡ lines (bytes ++ c ∷ []) ++ others)

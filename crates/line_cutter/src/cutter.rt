@@ -6,10 +6,11 @@ ghost use Rattle.text_forms.specs.LineTold.{line_told};
 
 use crate::content::Content;
 use crate::kept::Kept;
+use crate::parting::parted;
 use answers::NoMemory;
 use std::alloc::Global;
 use std::marker::Model;
-use text_forms::{Line, cut};
+use text_forms::Line;
 
 /// Cuts a stream of bytes into lines. Bytes come in pieces of any size, and each line is looked at where it lies.
 ///
@@ -37,7 +38,10 @@ impl Model for LineCutter {
     ghost Value = { Cutting };
 
     ghost view = { λ cutter. record {
-        bytes = cutter.kept; long = cutter.long; content = cutter.content; ended = cutter.ended
+      bytes = cutter.kept;
+      long = cutter.long;
+      content = cutter.content;
+      ended = cutter.ended;
     } };
 }
 
@@ -83,7 +87,7 @@ impl LineCutter {
             return 0;
         }
         let mut rest = piece;
-        'parts: while let Some((part, behind)) = cut(rest, b'\n') {
+        'parts: while let Some((part, behind)) = parted(rest) {
             self.grow(part);
             self.close();
             rest = behind;

@@ -1,10 +1,14 @@
 //! Streams that come in pieces of many sizes.
+mod taking;
+
 use crate::LineCutter;
+use std::alloc::{AllocError, Global};
 use std::test::Fail;
 use text_forms::Line;
 
 // Lines of all kinds, and one that isn't finished.
-const STREAM: &[u8] = b"first\n\n \t \nsecond\r\n\r\nthird\r\r\n \r\n\tfourth \n\r\r\n\r \nx\n\n\ny\n  last";
+const STREAM: &[u8] =
+    b"first\n\n \t \nsecond\r\n\r\nthird\r\r\n \r\n\tfourth \n\r\r\n\r \nx\n\n\ny\n  last";
 
 // Its lines.
 const LINES: [Line<'static>; 8] = [
@@ -32,6 +36,24 @@ const LONG_LINES: [(u8, usize, &[u8]); 11] = [
     (b'\t', 65_536, b"\r\t\n"),
     (b'x', 65_536, b""),
 ];
+
+// In pieces of how many bytes they come.
+const SIZES: [usize; 5] = [1, 4_096, 65_535, 65_536, usize::MAX];
+
+fn letters(alloc: Global, count: usize) -> Result<Vec<u8>, AllocError> {
+    let mut letters = Vec::new(alloc);
+    letters.resize(count, b'x')?;
+    Ok(letters)
+}
+
+fn long_lines(alloc: Global) -> Result<Vec<u8>, AllocError> {
+    let mut bytes = Vec::new(alloc);
+    for (fill, count, rest) in LONG_LINES {
+        bytes.resize(bytes.len().saturating_add(count), fill)?;
+        bytes.extend_from_slice(rest)?;
+    }
+    Ok(bytes)
+}
 
 // Whether a stream that comes in pieces of so many bytes has just these lines.
 fn has_lines(cutter: &mut LineCutter, bytes: &[u8], size: usize, lines: &[Line<'_>]) -> bool {
@@ -67,25 +89,21 @@ fn the_same_lines_are_cut_whatever_the_pieces(rt: HostRuntime) -> Result<(), Fai
 
 #[test]
 fn a_line_has_65_535_bytes_at_most(rt: HostRuntime) -> Result<(), Fail> {
-    let mut bytes = Vec::new(rt.alloc());
-    for (fill, count, rest) in LONG_LINES {
-        bytes.resize(bytes.len().saturating_add(count), fill)?;
-        bytes.extend_from_slice(rest)?;
-    }
-    let mut letters = Vec::new(rt.alloc());
-    letters.resize(65_535, b'x')?;
+    let bytes = long_lines(rt.alloc())?;
+    let shorter = letters(rt.alloc(), 65_534)?;
+    let longest = letters(rt.alloc(), 65_535)?;
     let lines = [
-        Line::Text(&letters[..65_534]),
-        Line::Text(&letters),
+        Line::Text(&shorter),
+        Line::Text(&longest),
         Line::TooLong,
         Line::TooLong,
-        Line::Text(&letters[..65_534]),
+        Line::Text(&shorter),
         Line::TooLong,
         Line::TooLong,
         Line::TooLong,
     ];
     let mut cutter = LineCutter::new(rt.alloc())?;
-    for size in [1, 4_096, 65_535, 65_536, usize::MAX] {
+    for size in SIZES {
         cutter.reset();
         assert!(rt; has_lines(&mut cutter, &bytes, size, &lines), "{size}");
     }
