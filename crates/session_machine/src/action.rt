@@ -3,7 +3,7 @@ use arrayvec::ArrayVec;
 use route_values::Family;
 use session_codec::{Agreed, Refusal};
 
-/// What is to be done for a session.
+/// What is to be done for a session. The default fills the places of [`Actions`] that are free.
 #[derive(Debug, PartialEq, Default, Drop)]
 pub enum Action {
     /// An OPEN is sent.

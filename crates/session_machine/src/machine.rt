@@ -11,7 +11,7 @@ use std::marker::Model;
 // The hold time in seconds before an OPEN was taken (RFC 4271, section 8.2.2).
 const FIRST_HOLD: u16 = 240;
 
-/// A session with a neighbour (RFC 4271, section 8.2.2).
+/// A session with a neighbour (RFC 4271, section 8.2.2): its own settings, and how far it has come.
 #[derive(Debug, Drop)]
 pub struct Machine {
     own: Settings,
@@ -40,7 +40,7 @@ impl Machine {
         }
     }
 
-    /// What is to be done at an event, in order.
+    /// What is to be done at an event, in order, by the table at [`State`].
     pub fn step(&mut self, event: Event<'_>) -> Actions
         ensures actions { result.items ≡ (table self.old.own self.old.state event.entry).actions }
         ensures state { self.new ≡
@@ -61,8 +61,8 @@ impl Machine {
         self.state
     }
 
-    /// The hold time in seconds, where 0 says that there is none: 240 until an OPEN was taken, and then the one that both
-    /// sides agree on.
+    /// The hold time in seconds: 240 until an OPEN was taken, and then the one that both sides agree on, where 0 says
+    /// that there are no timers (RFC 4271, section 4.2). The next session begins with 240 again.
     pub fn hold(&self) -> u16
         ensures { result ≡ hold_of self.now.state }
     {

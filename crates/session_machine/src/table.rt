@@ -23,7 +23,7 @@ pub fn row(own: &Settings, state: &State, event: Event<'_>) -> Step
     ensures state { result.state ≡ (table own.now state.now event.entry).state }
 {
     match (state, event) {
-        (Idle, Connected) => one(Action::SendOpen, &OpenSent),
+        (Idle, Connected) => just(Action::SendOpen, &OpenSent),
         (
             Idle,
             Open(_)
@@ -36,24 +36,25 @@ pub fn row(own: &Settings, state: &State, event: Event<'_>) -> Step
             | KeepaliveDue
             | Lost
             | Stop(..),
-        ) => none(&Idle),
+        ) => nothing(&Idle),
         (OpenSent, Open(Ok(theirs))) => {
-            one(Action::SendKeepalive, &OpenConfirm(negotiate(own, &theirs)))
+            just(Action::SendKeepalive, &OpenConfirm(negotiate(own, &theirs)))
         }
         (OpenSent, Keepalive | Update(_) | Refresh(_)) => out_of_order(state),
-        (OpenSent, KeepaliveDue | Connected) => none(state),
-        (OpenConfirm(agreed), Keepalive) => one(Action::Up(*agreed), &Established(*agreed)),
+        (OpenSent, KeepaliveDue | Connected) => nothing(state),
+        (OpenConfirm(agreed), Keepalive) => just(Action::Up(*agreed), &Established(*agreed)),
         (OpenConfirm(_), Open(Ok(_)) | Update(_) | Refresh(_)) => out_of_order(state),
-        (OpenConfirm(_), KeepaliveDue) => one(Action::SendKeepalive, state),
-        (Established(_), Keepalive) => none(state),
-        (Established(_), Update(_)) => one(Action::Heard, state),
+        (OpenConfirm(_), KeepaliveDue) => just(Action::SendKeepalive, state),
+        (Established(_), Keepalive) => nothing(state),
+        (Established(_), Update(_)) => just(Action::Heard, state),
         (Established(agreed), Refresh(Some(family))) if agreed.to_peer.has(family) => {
-            one(Action::Refresh(family), state)
+            just(Action::Refresh(family), state)
         }
-        (Established(_), Refresh(_)) => none(state),
+        (Established(_), Refresh(_)) => nothing(state),
         (Established(_), Open(Ok(_))) => out_of_order(state),
-        (Established(_), KeepaliveDue) => one(Action::SendKeepalive, state),
-        (OpenConfirm(_) | Established(_), Connected) => none(state),
+        (Established(_), KeepaliveDue) => just(Action::SendKeepalive, state),
+        (OpenConfirm(_) | Established(_), Connected) => nothing(state),
+        // In each state but Idle.
         (_, Open(Err(refusal)) | Bad(refusal)) => refused(state, refusal),
         (_, HoldExpired) => refused(state, Refusal::new(HOLD_TIMER_EXPIRED, UNSPECIFIC, &[])),
         (_, Stop(code, sub)) => refused(state, Refusal::new(code, sub, &[])),
@@ -62,7 +63,7 @@ pub fn row(own: &Settings, state: &State, event: Event<'_>) -> Step
 }
 
 // Nothing is to be done.
-fn none(state: &State) -> Step
+fn nothing(state: &State) -> Step
     ensures actions { result.actions.items ≡ [] }
     ensures state { result.state ≡ state.now }
 {
@@ -73,11 +74,11 @@ fn none(state: &State) -> Step
 }
 
 // One thing is to be done.
-fn one(action: Action, state: &State) -> Step
+fn just(action: Action, state: &State) -> Step
     ensures actions { result.actions.items ≡ action ∷ [] }
     ensures state { result.state ≡ state.now }
 {
-    let mut step = none(state);
+    let mut step = nothing(state);
     step.actions.push(action);
     step
 }
@@ -108,7 +109,7 @@ fn ended(state: &State) -> Step
     end(Actions::new(), state)
 }
 
-// The session ends behind these actions.
+// The session ends behind these actions: one that stood stands no more, and the connection is closed.
 fn end(mut actions: Actions, state: &State) -> Step
     requires { array_vec_len actions ≤ 2 }
     ensures actions { result.actions.items ≡ (ended state.now actions.items).actions }
