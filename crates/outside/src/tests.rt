@@ -1,3 +1,7 @@
+mod children;
+mod links;
+mod parts;
+
 use super::*;
 use std::alloc::Global;
 use std::test::Fail;
