@@ -8,3 +8,10 @@ pub mod Store
 pub mod Listed
 pub mod Seen
 pub mod Lent
+pub mod Moments
+pub mod Ended
+pub mod Spawning
+pub mod Dialling
+pub mod Receiving
+pub mod Hearing
+pub mod Refusals
