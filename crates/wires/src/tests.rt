@@ -2,9 +2,10 @@ use super::*;
 use std::io::{ErrorKind, Read, Write, pipe};
 use std::net::{SocketAddr, TcpListener, TcpStream};
 use std::os::fd::AsRawFd;
+use std::process::Command;
 use std::test::Fail;
-use std::time::{Clock, Instant};
-use std::{fs, thread};
+use std::time::{Clock, Duration, Instant};
+use std::{fs, process, thread};
 
 // A time that no test waits for.
 const LONG: u32 = 3_600_000;
@@ -41,7 +42,7 @@ fn a_wait_of_another_thread_is_rung_for_and_its_rest_closed(rt: HostRuntime) -> 
         &rt,
         || bell.rest(LONG),
         || {
-            thread::sleep(&rt, std::time::Duration::from_millis(20));
+            thread::sleep(&rt, Duration::from_millis(20));
             bell.ring();
             bell.close();
         },
@@ -162,5 +163,24 @@ fn a_peer_that_never_answers_is_given_up_in_time_or_when_the_bell_is_closed(
         || bell.close(),
     );
     assert_eq!(rt; closed, Some(ErrorKind::TimedOut));
+    Ok(())
+}
+
+#[test]
+fn a_child_is_seen_to_have_ended_until_it_is_waited_for(rt: HostRuntime) -> Result<(), Fail> {
+    let own = Watch::new(rt.alloc(), process::id(rt.process()))?;
+    assert!(rt; !own.has_ended());
+    let mut command = Command::new(rt.alloc(), "true")?;
+    let mut child = command.spawn(&rt)?;
+    let watch = Watch::new(rt.alloc(), child.id())?;
+    'looks: for _ in 0..500 {
+        if watch.has_ended() {
+            break;
+        }
+        thread::sleep(&rt, Duration::from_millis(10));
+    }
+    assert!(rt; watch.has_ended());
+    child.wait()?;
+    assert!(rt; !watch.has_ended());
     Ok(())
 }

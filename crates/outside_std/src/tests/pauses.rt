@@ -1,0 +1,82 @@
+use super::{LONG, SOON, millis_since};
+use crate::*;
+use outside::{Clock, Pause, Seat};
+use std::sync::Barrier;
+use std::sync::atomic::{AtomicU64, Ordering};
+use std::test::Fail;
+use std::thread;
+use std::time::Instant;
+
+#[test]
+fn a_ring_is_kept_for_its_seat_alone(rt: HostRuntime) -> Result<(), Fail> {
+    let board = Board::new(rt.alloc(), &rt, 2, 2)?;
+    let keeper = BoardPause::new(&board, Seat::Keeper);
+    for seat in [
+        Seat::Reader(1),
+        Seat::Replier(1),
+        Seat::Talker(1),
+        Seat::Keeper,
+    ] {
+        let pause = keeper.at(seat);
+        pause.ring();
+        pause.wait(LONG);
+        let start = Instant::now(&rt)?;
+        pause.wait(20);
+        assert!(rt; millis_since(&rt, &start)? >= 20, "{seat:?}");
+        pause.ring();
+        pause.rest(20);
+        assert!(rt; millis_since(&rt, &start)? >= 40, "{seat:?}");
+        pause.close();
+        pause.wait(LONG);
+        pause.wait(LONG);
+        pause.rest(LONG);
+    }
+    let start = Instant::now(&rt)?;
+    keeper.at(Seat::Reader(0)).wait(20);
+    assert!(rt; millis_since(&rt, &start)? >= 20);
+    keeper.at(Seat::Talker(2)).wait(LONG);
+    Ok(())
+}
+
+#[test]
+fn a_ring_ends_a_wait_of_another_thread_and_closing_a_rest(rt: HostRuntime) -> Result<(), Fail> {
+    let board = Board::new(rt.alloc(), &rt, 0, 1)?;
+    let pause = BoardPause::new(&board, Seat::Talker(0));
+    thread::join(&rt, || pause.wait(LONG), || pause.ring());
+    thread::join(&rt, || pause.rest(LONG), || pause.close());
+    Ok(())
+}
+
+#[test]
+fn the_clock_goes_on_and_costs_less_than_a_microsecond(rt: HostRuntime) -> Result<(), Fail> {
+    let clock = SystemClock::new(&rt);
+    let first = clock.now();
+    let board = Board::new(rt.alloc(), &rt, 0, 0)?;
+    BoardPause::new(&board, Seat::Keeper).wait(20);
+    assert!(rt; clock.now() >= first.saturating_add(20));
+    let start = Instant::now(&rt)?;
+    for _ in 0..100_000 {
+        assert!(rt; clock.now() >= first);
+    }
+    assert!(rt; millis_since(&rt, &start)? < 100);
+    Ok(())
+}
+
+#[test]
+fn jobs_beside_each_other_may_wait_for_each_other(rt: HostRuntime) -> Result<(), Fail> {
+    let start = Instant::now(&rt)?;
+    let met = AtomicU64::new(0);
+    let barrier = Barrier::new(40);
+    let mut jobs = [0u64; 40];
+    work_beside(&rt, &mut jobs, &|place, job: &mut u64| {
+        barrier.wait(&rt);
+        met.fetch_add(1, Ordering::SeqCst);
+        *job = place as u64;
+    });
+    assert_eq!(rt; met.load(Ordering::SeqCst), 40);
+    for (place, job) in jobs.iter().enumerate() {
+        assert_eq!(rt; *job, place as u64);
+    }
+    assert!(rt; millis_since(&rt, &start)? < SOON);
+    Ok(())
+}
