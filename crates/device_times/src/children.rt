@@ -14,9 +14,7 @@ const ROUNDS: u64 = 10_000;
 
 const LINE: &[u8] = b"done\n";
 
-fn started<S: Spawner>(
-    spawner: &mut S,
-) -> Result<Pipes<S::Source, S::Sink, S::Leash>, Fail> {
+fn started<S: Spawner>(spawner: &mut S) -> Result<Pipes<S::Source, S::Sink, S::Leash>, Fail> {
     match spawner.spawn(b"cat") {
         Spawned::Open(pipes) => Ok(pipes),
         Spawned::Failed => Err(Fail::from("no child")),

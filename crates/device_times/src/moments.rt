@@ -2,9 +2,8 @@
 
 use outside::Clock;
 use outside_std::SystemClock;
-use std::hint;
 use std::test::Fail;
-use std::time;
+use std::{hint, time};
 
 const MOMENTS: u64 = 1_000_000;
 

@@ -10,10 +10,13 @@ use std::thread::Threads;
 use std::time::{Clock, Duration};
 use wires::Bell;
 
-// How many rounds there are, and how many where each begins with a pause.
+// How many rounds there are where the rings follow each other.
 const ROUNDS: u64 = 10_000;
+
+// How many rounds there are where each begins with a pause.
 const PAUSED: u64 = 2_000;
 
+// How many rings nobody waits for.
 const ALONE: u64 = 10_000_000;
 
 // How many milliseconds a wait lasts at most.
@@ -143,6 +146,10 @@ pub fn time_lone_rings<R: Clock + Eprint>(rt: &R, bell: &Bell) -> Result<(), Fai
         bell.ring();
     }
     let each = nanos(rt).saturating_sub(start) / (ALONE / 100);
-    eprintln!(rt; "a ring that nobody waits for: {}.{:02} ns", each / 100, each % 100)?;
+    eprintln!(rt;
+        "a ring that nobody waits for: {}.{:02} ns",
+        each / 100,
+        each % 100
+    )?;
     Ok(())
 }

@@ -11,13 +11,13 @@ use std::io;
 use std::io::ErrorKind;
 use std::os::fd::AsFd;
 use std::process::{ChildStdin, ChildStdout};
-use wires::{PlainWriter, Watch};
+use wires::{PlainWriter, Watch, Woken};
 
 // How many milliseconds pass at most before a child's end is noticed, where its pipe stays open.
 const LOOK: u32 = 100;
 
-// A wait that has no end but a ring or the descriptor.
-const LONG: u32 = u32::MAX;
+// After so many looks without room, a minute, the child is taken for one that never reads.
+const LOOKS: u32 = 600;
 
 /// What a child writes, read through a pipe whose calls don't wait. `read` waits at the bell of the
 /// slot's reader, without limit.
@@ -110,7 +110,8 @@ fn read_from_child<R: io::Read + AsFd>(
     into: &mut [u8],
 ) -> io::Result<usize>
     ensures bound { ReadsAtMost result into.new }
-    ensures bytes { ReadGivesFront (R.remaining reader.old) (R.remaining reader.new) result into.new }
+    ensures bytes { ReadGivesFront (R.remaining reader.old) (R.remaining reader.new) result
+        into.new }
 {
     let mut over = false;
     'looks: for _ in 0..u64::MAX {
@@ -119,10 +120,7 @@ fn read_from_child<R: io::Read + AsFd>(
                 if over {
                     return Ok(0);
                 }
-                over = tie.is_over() || tie.reading().is_closed() || watch.has_ended();
-                if !over {
-                    tie.reading().wait_to_read(reader, LOOK);
-                }
+                over = waits_for_the_last(reader, tie, watch);
             }
             answer => return answer,
         }
@@ -130,11 +128,21 @@ fn read_from_child<R: io::Read + AsFd>(
     Err(io::Error::from(ErrorKind::TimedOut))
 }
 
-/// What a child reads, written through a pipe whose calls don't wait. `write` waits at the bell of
-/// the slot's replier, without limit.
+// Waits at the pipe unless the child is over, and says whether only what was written before is to
+// come. The system is asked only where a wait has ended with nothing.
+fn waits_for_the_last<R: AsFd>(reader: &R, tie: Tie<'_>, watch: &Watch) -> bool {
+    if tie.is_over() || tie.reading().is_closed() {
+        return true;
+    }
+    tie.reading().wait_to_read(reader, LOOK) == Woken::Quiet && watch.has_ended()
+}
+
+/// What a child reads, written through a pipe whose calls don't wait. `write` waits for room for at
+/// most 60 s, and hears no ring.
 ///
-/// It fails where nobody reads the pipe any more, and where the pipe is full and the child was
-/// killed, its source has ended or failed, or the bell is closed.
+/// It fails where nobody reads the pipe any more. Where the pipe is full it fails once the time is
+/// up, the child was killed, its source has ended or failed, or the bell of the slot's replier is
+/// closed.
 #[derive(Debug, Drop)]
 pub struct ChildSink<'a, W> {
     writer: W,
@@ -183,7 +191,7 @@ impl<W: io::Write + AsFd> Sink for ChildSink<'_, W> {
         ensures through { Takes (W.contents (child_writer_of self.old))
             (W.contents (child_writer_of self.new)) piece.now result }
     {
-        match write_to_child(&mut self.writer, self.tie, piece) {
+        match write_to_child(&mut self.writer, self.tie, LOOKS, piece) {
             Ok(0) | Err(_) => {
                 self.faults = self.faults.saturating_add(1);
                 Write::Failed
@@ -193,22 +201,23 @@ impl<W: io::Write + AsFd> Sink for ChildSink<'_, W> {
     }
 }
 
-// One write, made again behind each wait.
-fn write_to_child<W: io::Write + AsFd>(
+// One write, made again behind each wait for room, at most so often.
+pub(crate) fn write_to_child<W: io::Write + AsFd>(
     writer: &mut W,
     tie: Tie<'_>,
+    looks: u32,
     piece: &[u8],
 ) -> io::Result<usize>
     ensures bound { WritesAtMost result piece.now }
     ensures bytes { WriteAppends (W.contents writer.old) (W.contents writer.new) result piece.now }
 {
-    'tries: for _ in 0..u64::MAX {
+    'looks: for _ in 0..looks {
         match writer.write(piece) {
             Err(error) if is_passing(&error) => {
                 if tie.is_over() || tie.writing().is_closed() {
                     return Err(error);
                 }
-                tie.writing().wait_to_write(writer, LONG);
+                tie.writing().rest_to_write(writer, LOOK);
             }
             answer => return answer,
         }

@@ -8,17 +8,28 @@ use std::net::{SocketAddr, SocketAddrV4, SocketAddrV6};
 // The bytes of C's `sockaddr_storage`, in which each address fits.
 pub(crate) type Storage = [u8; c::_SS_SIZE];
 
-// How many bytes `sockaddr_in` and `sockaddr_in6` have.
+// How many bytes `sockaddr_in` has.
 const V4_LEN: u32 = 16;
+
+// How many bytes `sockaddr_in6` has.
 const V6_LEN: u32 = 28;
 
-// Where the fields begin. Both have the family and the port in front; then `sockaddr_in` has its
-// address, and `sockaddr_in6` its flow, its address and its scope.
+// Where the family begins, in both.
 const FAMILY: usize = 0;
+
+// Where the port begins, in both.
 const PORT: usize = 2;
+
+// Where the address begins in `sockaddr_in`.
 const V4_ADDRESS: usize = 4;
+
+// Where the flow begins in `sockaddr_in6`.
 const V6_FLOW: usize = 4;
+
+// Where the address begins in `sockaddr_in6`.
 const V6_ADDRESS: usize = 8;
+
+// Where the scope begins in `sockaddr_in6`.
 const V6_SCOPE: usize = 24;
 
 // The bytes of an address, and how many of them C is to read.

@@ -9,10 +9,13 @@ use std::net::Net;
 use std::os::fd::{AsFd, AsRawFd, OwnedFd, RawFd};
 use std::sync::atomic::{AtomicBool, AtomicU64, Ordering};
 
-// What a bell's state is: nobody waits and nobody has rung; a thread waits; somebody has rung, and
-// no wait has ended by it yet.
+// The state of a bell at which nobody waits and that nobody has rung.
 const IDLE: u64 = 0;
+
+// A thread waits.
 const AWAITED: u64 = 1;
+
+// Somebody has rung, and no wait has ended by it yet.
 const RUNG: u64 = 2;
 
 /// What ended a wait beside a descriptor.
@@ -93,12 +96,14 @@ impl Bell {
 
     /// Waits until the descriptor can be read, or for a ring.
     pub fn wait_to_read<F: AsFd>(&self, file: &F, millis: u32) -> Woken {
-        self.wait_beside(file.as_fd().as_raw_fd(), c::POLLIN, millis)
-    }
-
-    /// Waits until the descriptor can be written, or for a ring.
-    pub fn wait_to_write<F: AsFd>(&self, file: &F, millis: u32) -> Woken {
-        self.wait_beside(file.as_fd().as_raw_fd(), c::POLLOUT, millis)
+        if !self.begins() {
+            return Woken::Quiet;
+        }
+        let fd = file.as_fd().as_raw_fd();
+        let mut asked = [asks(fd, c::POLLIN), asks(self.rings.as_raw_fd(), c::POLLIN)];
+        c::poll(&mut asked, timeout(millis));
+        self.ends(asked[1].revents != 0);
+        woken_by(asked[0])
     }
 
     /// Rests until the descriptor can be written, which no ring ends.
@@ -109,16 +114,6 @@ impl Bell {
             asks(self.closing.as_raw_fd(), c::POLLIN),
         ];
         c::poll(&mut asked, timeout(millis));
-        woken_by(asked[0])
-    }
-
-    fn wait_beside(&self, fd: RawFd, events: i16, millis: u32) -> Woken {
-        if !self.begins() {
-            return Woken::Quiet;
-        }
-        let mut asked = [asks(fd, events), asks(self.rings.as_raw_fd(), c::POLLIN)];
-        c::poll(&mut asked, timeout(millis));
-        self.ends(asked[1].revents != 0);
         woken_by(asked[0])
     }
 

@@ -2,9 +2,10 @@
 
 use std::alloc::{AllocError, Global};
 
-// What the state of a process is called once it has ended: nobody has asked for its status yet, or
-// it is about to vanish (proc(5), the third field of `stat`).
+// The state of a process that has ended and whose status nobody has asked for (proc(5), `stat`).
 const ZOMBIE: u8 = b'Z';
+
+// The state of a process that is about to vanish.
 const DEAD: u8 = b'X';
 
 /// A process, by the file in which the system says how it is.

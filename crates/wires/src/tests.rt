@@ -10,8 +10,10 @@ use std::{fs, process, thread};
 // A time that no test waits for.
 const LONG: u32 = 3_600_000;
 
-// The flags of an open file in the system's `fdinfo`: that calls don't wait, and close-on-exec.
+// The flag of an open file whose calls don't wait.
 const O_NONBLOCK: u64 = 0o4000;
+
+// The flag of a descriptor that no child inherits.
 const O_CLOEXEC: u64 = 0o2000000;
 
 fn millis_since<R: Clock>(rt: &R, start: &Instant) -> Result<u64, Fail> {
@@ -64,7 +66,6 @@ fn a_wait_beside_a_pipe_ends_by_a_byte_by_a_ring_or_by_time(rt: HostRuntime) -> 
     writer.write_all(b"x")?;
     assert_eq!(rt; bell.wait_to_read(&reader, LONG), Woken::Ready);
     assert_eq!(rt; reader.read(&mut [0; 8])?, 1);
-    assert_eq!(rt; bell.wait_to_write(&writer, LONG), Woken::Ready);
     bell.ring();
     assert_eq!(rt; bell.rest_to_write(&writer, LONG), Woken::Ready);
     Ok(())
@@ -80,11 +81,17 @@ fn a_pipe_that_is_full_or_that_nobody_reads_fails_and_kills_nobody(
     let mut writer = PlainWriter::new(writer);
     let piece = [b'x'; 65_536];
     assert_eq!(rt; writer.write(&piece)?, 65_536);
-    assert_eq!(rt; writer.write(&piece).err().map(|e| e.kind()), Some(ErrorKind::WouldBlock));
+    assert_eq!(rt;
+        writer.write(&piece).err().map(|e| e.kind()),
+        Some(ErrorKind::WouldBlock)
+    );
     assert_eq!(rt; bell.rest_to_write(&writer, 20), Woken::Quiet);
     drop(reader);
     assert_eq!(rt; bell.rest_to_write(&writer, LONG), Woken::Ready);
-    assert_eq!(rt; writer.write(&piece).err().map(|e| e.kind()), Some(ErrorKind::BrokenPipe));
+    assert_eq!(rt;
+        writer.write(&piece).err().map(|e| e.kind()),
+        Some(ErrorKind::BrokenPipe)
+    );
     Ok(())
 }
 

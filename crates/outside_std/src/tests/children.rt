@@ -1,10 +1,13 @@
 use super::{SOON, millis_since};
+use crate::pipes::write_to_child;
 use crate::*;
 use outside::{Leash, Pipes, Read, Sink, Source, Spawned, Spawner, Write};
+use std::io::pipe;
 use std::net::TcpListener;
 use std::test::Fail;
 use std::time::{Duration, Instant};
 use std::{str, thread};
+use wires::{PlainWriter, unblock};
 
 type ChildPipes<'a> = Pipes<PipeSource<'a>, PipeSink<'a>, ProcessLeash<'a>>;
 
@@ -18,12 +21,12 @@ fn started<'a>(
     }
 }
 
-// Reads to the end, or until 256 bytes have come, and says how many came and the last answer.
-fn read_all<S: Source>(source: &mut S, into: &mut [u8; 256]) -> (usize, Read) {
+// Reads to the end, or until the buffer is full, and says how many bytes came and the last answer.
+fn read_all<S: Source>(source: &mut S, into: &mut [u8]) -> (usize, Read) {
     let mut count = 0;
     let mut answer = Read::End;
     'pieces: for _ in 0..256 {
-        if count >= 256 {
+        if count >= into.len() {
             break;
         }
         answer = source.read(&mut into[count..]);
@@ -85,19 +88,21 @@ fn a_childs_end_is_seen_while_a_program_that_it_started_holds_the_pipe(
     let post = Post::new(&rt)?;
     let mut spawner = ProcessSpawner::new(&rt, rt.alloc(), &post);
     for (run, is_killed) in [
-        (b"sh\0-c\0sleep 4 & echo a; echo b".as_slice(), false),
-        (b"sh\0-c\0sleep 4 & echo a; echo b; exec cat".as_slice(), true),
+        (b"sh\0-c\0sleep 8 2>/dev/null & echo a; echo b".as_slice(), false),
+        (
+            b"sh\0-c\0sleep 8 2>/dev/null & echo a; echo b; exec cat".as_slice(),
+            true,
+        ),
     ] {
         let start = Instant::now(&rt)?;
         let mut pipes = started(&mut spawner, run)?;
+        let mut buffer = [0; 256];
+        let (count, answer) = read_all(&mut pipes.source, &mut buffer[..4]);
+        assert_eq!(rt; &buffer[..count], b"a\nb\n".as_slice(), "{answer:?}");
         if is_killed {
-            thread::sleep(&rt, Duration::from_millis(500));
             pipes.leash.kill();
         }
-        let mut buffer = [0; 256];
-        let (count, answer) = read_all(&mut pipes.source, &mut buffer);
-        assert_eq!(rt; answer, Read::End);
-        assert_eq!(rt; &buffer[..count], b"a\nb\n".as_slice(), "killed: {is_killed}");
+        assert_eq!(rt; pipes.source.read(&mut buffer), Read::End, "killed: {is_killed}");
         spawner.give_back(pipes);
         assert!(rt; millis_since(&rt, &start)? < SOON, "killed: {is_killed}");
     }
@@ -132,7 +137,10 @@ fn a_write_to_a_child_that_is_gone_or_deaf_fails_and_kills_nobody(
     let mut spawner = ProcessSpawner::new(&rt, rt.alloc(), &post);
     for (run, first) in [
         (b"true".as_slice(), Read::End),
-        (b"sh\0-c\0exec 0<&-; echo x; exec sleep 4".as_slice(), Read::Got(2)),
+        (
+            b"sh\0-c\0exec 0<&-; echo x; exec sleep 8".as_slice(),
+            Read::Got(2),
+        ),
     ] {
         let mut pipes = started(&mut spawner, run)?;
         assert_eq!(rt; pipes.source.read(&mut [0; 64]), first);
@@ -168,7 +176,7 @@ fn a_write_to_a_child_that_never_reads_ends_when_it_is_killed_or_its_output_ends
             mut source,
             mut sink,
             mut leash,
-        } = started(&mut spawner, b"sh\0-c\0exec sleep 4 >&-")?;
+        } = started(&mut spawner, b"sh\0-c\0exec sleep 8 >&-")?;
         let start = Instant::now(&rt)?;
         let (taken, _) = thread::join(
             &rt,
@@ -195,10 +203,28 @@ fn a_write_to_a_child_that_never_reads_ends_when_it_is_killed_or_its_output_ends
 }
 
 #[test]
+fn a_write_that_finds_no_room_for_long_fails(rt: HostRuntime) -> Result<(), Fail> {
+    let post = Post::new(&rt)?;
+    let (reader, writer) = pipe(&rt)?;
+    unblock(&writer)?;
+    let mut writer = PlainWriter::new(writer);
+    let piece = [b'x'; 65_536];
+    assert_eq!(rt;
+        write_to_child(&mut writer, post.next_child(), 2, &piece)?,
+        65_536
+    );
+    let start = Instant::now(&rt)?;
+    assert!(rt; write_to_child(&mut writer, post.next_child(), 2, &piece).is_err());
+    assert!(rt; (200..SOON).contains(&millis_since(&rt, &start)?));
+    drop(reader);
+    Ok(())
+}
+
+#[test]
 fn a_closed_worker_waits_at_no_pipe(rt: HostRuntime) -> Result<(), Fail> {
     let post = Post::new(&rt)?;
     let mut spawner = ProcessSpawner::new(&rt, rt.alloc(), &post);
-    let mut pipes = started(&mut spawner, b"sleep\x004")?;
+    let mut pipes = started(&mut spawner, b"sleep\x008")?;
     post.reading().close();
     post.writing().close();
     assert_eq!(rt; pipes.source.read(&mut [0; 64]), Read::End);
@@ -225,7 +251,7 @@ fn a_child_has_nothing_open_but_its_three_streams(rt: HostRuntime) -> Result<(),
     assert_eq!(rt; str::from_utf8(&buffer[..count])?, "0\n1\n2\n");
     right.give_back(other);
     // The first child's input ends while the second one, which was started later, lives.
-    let later = started(&mut right, b"sleep\x004")?;
+    let later = started(&mut right, b"sleep\x008")?;
     let Pipes {
         mut source,
         sink,

@@ -9,9 +9,13 @@ use std::thread;
 use std::time::{Duration, Instant};
 use wires::Bell;
 
-// 127.0.0.1, 127.0.0.2 and ::1.
+// 127.0.0.1.
 const FIRST: Addr = Addr::V4(0x7f00_0001);
+
+// 127.0.0.2.
 const SECOND: Addr = Addr::V4(0x7f00_0002);
+
+// ::1, IPv6's only loopback address.
 const SIXTH: Addr = Addr::V6(1);
 
 fn settings(local: Addr, peer: Addr, port: u16) -> Settings {
@@ -135,7 +139,10 @@ fn a_send_to_a_peer_that_takes_nothing_ends_when_the_worker_is_closed(
         },
     );
     let took = millis_since(&rt, &start)?;
-    assert!(rt; taken > 65_536 && (200..SOON).contains(&took), "{taken} bytes, {took} ms");
+    assert!(rt;
+        taken > 65_536 && (200..SOON).contains(&took),
+        "{taken} bytes, {took} ms"
+    );
     assert_eq!(rt; link.faults(), 1);
     dialer.give_back(link);
     assert_eq!(rt; dialer.faults(), 1);

@@ -1,6 +1,6 @@
 use super::{LONG, SOON, millis_since};
 use crate::*;
-use outside::{Clock, Pause, Seat};
+use outside::{Clock, Pause, Seat, Spawned, Spawner};
 use std::sync::Barrier;
 use std::sync::atomic::{AtomicU64, Ordering};
 use std::test::Fail;
@@ -48,17 +48,13 @@ fn a_ring_ends_a_wait_of_another_thread_and_closing_a_rest(rt: HostRuntime) -> R
 }
 
 #[test]
-fn the_clock_goes_on_and_costs_less_than_a_microsecond(rt: HostRuntime) -> Result<(), Fail> {
+fn the_clock_goes_on(rt: HostRuntime) -> Result<(), Fail> {
     let clock = SystemClock::new(&rt);
     let first = clock.now();
     let board = Board::new(rt.alloc(), &rt, 0, 0)?;
     BoardPause::new(&board, Seat::Keeper).wait(20);
     assert!(rt; clock.now() >= first.saturating_add(20));
-    let start = Instant::now(&rt)?;
-    for _ in 0..100_000 {
-        assert!(rt; clock.now() >= first);
-    }
-    assert!(rt; millis_since(&rt, &start)? < 100);
+    assert!(rt; clock.now() < first.saturating_add(LONG));
     Ok(())
 }
 
@@ -68,15 +64,45 @@ fn jobs_beside_each_other_may_wait_for_each_other(rt: HostRuntime) -> Result<(),
     let met = AtomicU64::new(0);
     let barrier = Barrier::new(40);
     let mut jobs = [0u64; 40];
-    work_beside(&rt, &mut jobs, &|place, job: &mut u64| {
-        barrier.wait(&rt);
-        met.fetch_add(1, Ordering::SeqCst);
-        *job = place as u64;
-    });
+    work_beside(
+        &rt,
+        &mut jobs,
+        &|place, job: &mut u64| {
+            barrier.wait(&rt);
+            met.fetch_add(1, Ordering::SeqCst);
+            *job = place as u64;
+        },
+    );
     assert_eq!(rt; met.load(Ordering::SeqCst), 40);
     for (place, job) in jobs.iter().enumerate() {
         assert_eq!(rt; *job, place as u64);
     }
     assert!(rt; millis_since(&rt, &start)? < SOON);
+    Ok(())
+}
+
+#[test]
+fn a_thread_may_own_the_devices_of_a_worker(rt: HostRuntime) -> Result<(), Fail> {
+    let board = Board::new(rt.alloc(), &rt, 1, 1)?;
+    let (Some(post), Some(bell)) = (board.post(0), board.bell(Seat::Talker(0))) else {
+        return Err(Fail::from("no seats"));
+    };
+    let mut spawner = ProcessSpawner::new(&rt, rt.alloc(), post);
+    let dialer = TcpDialer::new(&rt, bell);
+    let (files, clock) = (StdFiles::new(&rt), SystemClock::new(&rt));
+    let (spawner, (dialer, faults)) = thread::join(
+        &rt,
+        move || {
+            if let Spawned::Open(pipes) = spawner.spawn(b"true") {
+                spawner.give_back(pipes);
+            }
+            spawner
+        },
+        move || {
+            let faults = files.faults().saturating_add(clock.now().min(0));
+            (dialer, faults)
+        },
+    );
+    assert_eq!(rt; (spawner.faults(), dialer.faults(), faults), (0, 0, 0));
     Ok(())
 }
