@@ -89,7 +89,7 @@ are_said caps steps bytes (head.End family) keys marked due = record {
   left = rw due.none tt;
   each = rw due.none tt;
   marker = λ f e. subst (λ g. is_marker_left caps steps g ≡ true) (same_family_is family f (sym (marked f) ∙ e))
-    due.left;
+      due.left;
   some = let one = one_mark family bytes marked in omega arith;
 }
 

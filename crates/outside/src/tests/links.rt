@@ -105,11 +105,7 @@ fn each_listed_call_of_a_link_fails_and_counts(rt: HostRuntime) -> Result<(), Fa
 }
 
 // Opens one link, and counts at these marks.
-fn marked<'a>(
-    alloc: Global,
-    ends: &'a Mark,
-    faults: &'a Mark,
-) -> Result<MemoryDialer<'a>, Fail> {
+fn marked<'a>(alloc: Global, ends: &'a Mark, faults: &'a Mark) -> Result<MemoryDialer<'a>, Fail> {
     let link = ReadyLink::new(alloc, b"abc", 16, 8)?.quiet();
     let dialer = MemoryDialer::new(alloc, one(alloc, link)?, 1, &[])?;
     Ok(dialer.marking(ends, faults))

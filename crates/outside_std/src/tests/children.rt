@@ -88,7 +88,10 @@ fn a_childs_end_is_seen_while_a_program_that_it_started_holds_the_pipe(
     let post = Post::new(&rt)?;
     let mut spawner = ProcessSpawner::new(&rt, rt.alloc(), &post);
     for (run, is_killed) in [
-        (b"sh\0-c\0sleep 8 2>/dev/null & echo a; echo b".as_slice(), false),
+        (
+            b"sh\0-c\0sleep 8 2>/dev/null & echo a; echo b".as_slice(),
+            false,
+        ),
         (
             b"sh\0-c\0sleep 8 2>/dev/null & echo a; echo b; exec cat".as_slice(),
             true,
@@ -102,7 +105,11 @@ fn a_childs_end_is_seen_while_a_program_that_it_started_holds_the_pipe(
         if is_killed {
             pipes.leash.kill();
         }
-        assert_eq!(rt; pipes.source.read(&mut buffer), Read::End, "killed: {is_killed}");
+        assert_eq!(rt;
+            pipes.source.read(&mut buffer),
+            Read::End,
+            "killed: {is_killed}"
+        );
         spawner.give_back(pipes);
         assert!(rt; millis_since(&rt, &start)? < SOON, "killed: {is_killed}");
     }
