@@ -6,6 +6,7 @@ use Rattle.outside.specs.declared.dialer.Dialled.{Dialled}
 use Rattle.outside.specs.declared.dialer.Dialled.TheVariants.{Open, Failed}
 use Rattle.outside.specs.Told.{GaveNothing, CountsOne}
 use Rattle.outside.specs.Lent.{GoesBy}
+use Rattle.outside.specs.Waiting.{TakesNext}
 use Rattle.route_values.specs.declared.settings.Settings.{Settings}
 
 -- where the settings are told, they are these
@@ -40,3 +41,9 @@ module _ {L : Type 0} where
   abbrev pub IsDialledWith : (L → Option Settings) → Settings → Dialled L → Type 0
   IsDialledWith dialled to (Open link) = AreSettings (dialled link) to
   IsDialledWith dialled to Failed = ⊤
+
+  -- a link came that gives what comes next
+  abbrev pub DialsNext :
+      (L → List ℕ) → List (List ℕ) → List (List ℕ) → Dialled L → Type 0
+  DialsNext left before after (Open link) = TakesNext before after (left link)
+  DialsNext left before after Failed = ⊥

@@ -28,7 +28,11 @@ abbrev pub child_of : Option (List ℕ) → Bool → ℕ → Option (List ℕ) �
 child_of None ended faults taken sink_faults = None
 child_of (Some given) ended faults None sink_faults = None
 child_of (Some given) ended faults (Some taken) sink_faults = Some record {
-  given = given; ended = ended; faults = faults; taken = taken; sink_faults = sink_faults
+  given = given;
+  ended = ended;
+  faults = faults;
+  taken = taken;
+  sink_faults = sink_faults;
 }
 
 -- a link, where it tells all of itself
@@ -39,7 +43,12 @@ link_of (Some dialled) None quiets ended taken faults = None
 link_of (Some dialled) (Some given) None ended taken faults = None
 link_of (Some dialled) (Some given) (Some quiets) ended None faults = None
 link_of (Some dialled) (Some given) (Some quiets) ended (Some taken) faults = Some record {
-  dialled = dialled; given = given; quiets = quiets; ended = ended; taken = taken; faults = faults
+  dialled = dialled;
+  given = given;
+  quiets = quiets;
+  ended = ended;
+  taken = taken;
+  faults = faults;
 }
 
 module _ {A : Type 0} where

@@ -15,3 +15,10 @@ pub mod Dialling
 pub mod Receiving
 pub mod Hearing
 pub mod Refusals
+pub mod Holding
+pub mod Kept
+pub mod Rolls
+pub mod Waiting
+pub mod Children
+pub mod Spawners
+pub mod Links

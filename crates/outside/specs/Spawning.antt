@@ -5,6 +5,7 @@ use Rattle.outside.specs.declared.spawner.Spawned.{Spawned}
 use Rattle.outside.specs.declared.spawner.Spawned.TheVariants.{Open, Failed}
 use Rattle.outside.specs.Told.{GaveNothing, CountsOne}
 use Rattle.outside.specs.Lent.{GoesBy}
+use Rattle.outside.specs.Waiting.{TakesNext}
 
 module _ {S K L : Type 0} where
   -- failing to start counts one fault, and starting leaves the count
@@ -27,3 +28,9 @@ module _ {S K L : Type 0} where
   abbrev pub IsNewSink : (K → Option (List ℕ)) → (K → ℕ) → Spawned S K L → Type 0
   IsNewSink taken faults (Open pipes) = GaveNothing (taken pipes.sink) × (faults pipes.sink ≡ 0)
   IsNewSink taken faults Failed = ⊤
+
+  -- a child was started whose source gives what comes next
+  abbrev pub StartsNext :
+      (S → List ℕ) → List (List ℕ) → List (List ℕ) → Spawned S K L → Type 0
+  StartsNext left before after (Open pipes) = TakesNext before after (left pipes.source)
+  StartsNext left before after Failed = ⊥

@@ -31,7 +31,9 @@ impl<'a> CrewPlan<'a> {
     pub fn refuses(&mut self, job: u64) -> bool
         ensures listed { result ≡ is_refused self.old job }
         ensures count { self.new ≡ record self.old {
-            faults = if is_refused self.old job then counted self.old.faults else self.old.faults } }
+          faults =
+              if is_refused self.old job then counted self.old.faults else self.old.faults;
+        } }
         ensures later { self.old.faults ≤ self.new.faults }
     {
         let refused = self.refused.contains(&job);

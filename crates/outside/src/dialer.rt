@@ -19,8 +19,13 @@ pub enum Dialled<L> {
 pub trait Dialer {
     ghost use Rattle.outside.specs.Opening.{CountsSource};
     ghost use Rattle.outside.specs.Ended.{EndedLink, link_of, Gathers};
-    ghost use Rattle.outside.specs.Dialling.{DialCounts, DialFails, IsNewLink, HasNoNotes,
-        IsDialledWith};
+    ghost use Rattle.outside.specs.Dialling.{
+      DialCounts,
+      DialFails,
+      IsNewLink,
+      HasNoNotes,
+      IsDialledWith,
+    };
 
     /// A connection to a peer.
     type Link: Link + Drop + Send;
