@@ -1,7 +1,3 @@
-mod children;
-mod links;
-mod parts;
-
 use super::*;
 use std::alloc::Global;
 use std::test::Fail;
