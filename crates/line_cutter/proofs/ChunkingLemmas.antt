@@ -1,6 +1,5 @@
 -- A stream that is cut into lines while it comes.
-use Rattle.std.proofs.Common.{ℕ, suc, ◌≡◌, ◌==◌, ◌≤◌, ◌<◌, Bool, true, false, cond, ltb, List, [], ◌∷◌, ◌++◌, length, take}
-use Rattle.std.proofs.Common.{drop}
+use Rattle.std.proofs.Common.{ℕ, suc, ◌≡◌, ◌==◌, Bool, true, false, cond, ltb, List, [], ◌∷◌, ◌++◌, length, take, drop}
 use Rattle.std.proofs.Common.{Option, Some, None, ap, sym, ◌∙◌, refl, subst, arith, append_assoc, inl, inr, ◌⊎◌}
 use Rattle.std.specs.Option.{option_to_list}
 use Rattle.std.proofs.lemmas.Bool.{eqb-true, ltb-false}
@@ -125,7 +124,8 @@ cut_takes taken passed now (b ∷ piece) cut =
 advanced_at : (now : Cutting) (ended : Bool) → now.ended ≡ ended → (standing (advanced now) ≡ None)
     × (advanced (advanced now) ≡ advanced now)
 advanced_at now true is =
-    let same : advanced now ≡ fresh = ap (λ ended. cond ended fresh now) is in (ap standing same, ap advanced same ∙ sym same)
+    let same : advanced now ≡ fresh = ap (λ ended. cond ended fresh now) is in
+    (ap standing same, ap advanced same ∙ sym same)
 advanced_at now false is =
     let same : advanced now ≡ now = ap (λ ended. cond ended fresh now) is in
     let none : standing now ≡ None = rw is refl in

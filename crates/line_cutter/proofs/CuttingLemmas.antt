@@ -1,6 +1,6 @@
 -- A cutter that takes bytes.
-use Rattle.std.proofs.Common.{ℕ, zero, suc, ◌≡◌, ◌≢◌, ◌+◌, ◌-◌, ◌<◌, ◌≤◌, ◌==◌, Bool, true, false, ◌||◌, cond, ltb, List}
-use Rattle.std.proofs.Common.{[], ◌∷◌, ◌++◌, length, take, All, ap, sym, ◌∙◌, refl, inl, inr, arith, append_assoc}
+use Rattle.std.proofs.Common.{ℕ, zero, suc, ◌≡◌, ◌≢◌, ◌+◌, ◌-◌, ◌<◌, ◌≤◌, ◌==◌, Bool, true, false, ◌||◌, cond, ltb}
+use Rattle.std.proofs.Common.{List, [], ◌∷◌, ◌++◌, length, take, All, ap, sym, ◌∙◌, refl, inl, inr, arith, append_assoc}
 use Rattle.std.proofs.Common.{length-append, subst, lt-ltb, le-ltb, ◌⊎◌}
 use Rattle.std.specs.List.{fold}
 use Rattle.std.proofs.lemmas.Bool.{cases_lt}
@@ -102,7 +102,8 @@ grown_none now =
     same_cutting _ _ _ _ _ _ now.ended bytes long refl
 
 -- a byte that comes while no line stands
-pub fed_open : (b : ℕ) (bytes : List ℕ) (now : Cutting) → now.ended ≡ false → fed (b ∷ bytes) now ≡ fed bytes (after b now)
+pub fed_open : (b : ℕ) (bytes : List ℕ) (now : Cutting) → now.ended ≡ false
+    → fed (b ∷ bytes) now ≡ fed bytes (after b now)
 fed_open b bytes now open_now = ap (λ ended. cond ended now (fed bytes (after b now))) open_now
 
 pub count_open : (b : ℕ) (bytes : List ℕ) (now : Cutting) → now.ended ≡ false
@@ -137,7 +138,8 @@ fed_part [] rest now lacks open_now =
       count = omega (arith, ap (count_of rest) (sym (grown_none now)));
     }
 fed_part (b ∷ part) rest now lacks open_now =
-    grown_step b part rest now (differs b 10 lacks.0) open_now (fed_part part rest (grown (b ∷ []) now) lacks.1 open_now)
+    grown_step b part rest now (differs b 10 lacks.0) open_now
+    (fed_part part rest (grown (b ∷ []) now) lacks.1 open_now)
 
 -- while a line stands nothing is taken
 pub fed_ended : (piece : List ℕ) (now : Cutting) → now.ended ≡ true → fed piece now ≡ now

@@ -1,6 +1,6 @@
 -- What a contract sees of a cutter, and what its calls make of it.
-use Rattle.std.specs.Prelude.{ℕ, suc, ◌-◌, ◌==◌, nat_lt, if◌then◌else◌, Bool, true, false, ◌||◌, List, [], ◌∷◌, ◌++◌, length}
-use Rattle.std.specs.Prelude.{take, Option, Some, None}
+use Rattle.std.specs.Prelude.{ℕ, suc, ◌-◌, ◌==◌, nat_lt, if◌then◌else◌, Bool, true, false, ◌||◌, List, [], ◌∷◌, ◌++◌}
+use Rattle.std.specs.Prelude.{length, take, Option, Some, None}
 use Rattle.std.specs.List.{fold}
 use Rattle.text_forms.specs.Lines.{Line, Text, TooLong, without_return}
 use Rattle.line_cutter.specs.declared.content.Content.{Content}

@@ -2,7 +2,7 @@
 //! ends each, one carriage return before it is dropped, and blank ones are passed over.
 //!
 //! Each call but `LineCutter::new` works in memory that is already there, and holds one line at most. The crate stands
-//! on `answers` and `text_forms`, and looks for line feeds by `memchr`. It reads no source, and knows no words in a line.
+//! on `answers` and `text_forms`, and finds line feeds by `memchr`. It reads no source and knows no words in a line.
 #![tactic(auto)]
 
 mod content;
