@@ -1,14 +1,11 @@
 -- The first that is found in lists, one list further.
-use Rattle.std.proofs.Common.{ℕ, suc, ◌≡◌, ◌+◌, ◌<◌, Bool, true, false, cond, List, [], ◌∷◌, ◌++◌, map, filter, length}
-use Rattle.std.proofs.Common.{◌≤◌, get_or, take, drop, Option, Some, None, sym, ap, ◌∙◌, arith, add-one, drop-cons}
-use Rattle.std.specs.Prelude.{find, sum_by, is_some}
+use Rattle.std.proofs.Common.{ℕ, suc, ◌≡◌, ◌+◌, ◌<◌, Bool, true, false, List, ◌∷◌, length, get_or, drop}
+use Rattle.std.proofs.Common.{Option, Some, None, sym, ap, ◌∙◌, add-one, drop-cons}
+use Rattle.std.specs.Prelude.{find, is_some}
 use Rattle.std.specs.Borrow.{Bor}
 use Rattle.std.specs.List.{flat_map}
 use Rattle.std.specs.Option.{option_copied, option_or}
-use Rattle.std.proofs.lemmas.List.{take_more, take-append-drop, map-append}
-use Rattle.std.proofs.lemmas.List.Elements.{filter-append}
 use Rattle.std.proofs.lemmas.List.Folds.{find-append}
-use Rattle.std.proofs.lemmas.List.Sums.{sum_by-append}
 
 -- what is found from the i-th list on is found in it, or behind it
 pub found_next : {X Y : Type 0} (test : Y → Bool) (inner : X → List Y) (xs : List X) (i : ℕ) (x : X)

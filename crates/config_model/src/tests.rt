@@ -5,7 +5,7 @@ use route_values::{Addr, Attrs, Family, Hop, Items, Key, NoMemory, Pick, Prefix,
 use std::alloc::Global;
 use std::test::Fail;
 
-ghost use Rattle.std.specs.Prelude.{◌≡◌, ◌×◌, IfOk, map};
+ghost use Rattle.std.specs.Prelude.{◌≡◌, IfOk, map};
 ghost use Rattle.std.specs.List.{AllByRecursion, IsDistinct};
 ghost use Rattle.route_values.specs.declared.addr.Family.TheVariants.{Ipv4};
 ghost use Rattle.route_values.specs.Addr.{family_of};
@@ -203,24 +203,24 @@ fn pick(peer: u32, peer_as: Option<u32>) -> Pick {
 }
 
 #[test]
-fn a_configuration_has_the_sections_that_were_added(rt: HostRuntime) -> Result<(), Fail> {
+fn sections_are_found_by_name_and_address(rt: HostRuntime) -> Result<(), Fail> {
     let config = config(rt.alloc())?;
-    assert_eq!(rt; config.processes().len(), 2);
-    assert_eq!(rt; config.neighbors().len(), 2);
-    assert_eq!(rt; place_of_process(config.processes(), CHECKER), Some(1));
-    assert_eq!(rt; place_of_process(config.processes(), b"check"), None);
-    assert_eq!(rt; place_of_neighbor(config.neighbors(), Addr::V4(SECOND)), Some(1));
-    assert_eq!(rt; place_of_neighbor(config.neighbors(), Addr::V4(THIRD)), None);
-    'processes: for section in config.processes() {
-        assert!(rt; section.copy().is_same(section));
-        assert!(rt; !section.is_same(&process(b"other")));
+    let names = [(ANNOUNCER, Some(0)), (CHECKER, Some(1)), (&b"check"[..], None)];
+    'names: for (name, wanted) in names {
+        assert_eq!(rt; place_of_process(config.processes(), name), wanted, "{name:?}");
     }
-    'neighbors: for section in config.neighbors() {
-        let copied = found(section.copy(rt.alloc()))?;
-        assert_eq!(rt; copied.settings, section.settings);
-        assert_eq!(rt; copied.processes.len(), section.processes.len());
+    let peers = [(FIRST, Some(0)), (SECOND, Some(1)), (THIRD, None)];
+    'peers: for (peer, wanted) in peers {
+        assert_eq!(rt; place_of_neighbor(config.neighbors(), Addr::V4(peer)), wanted, "{peer}");
     }
     Ok(())
+}
+
+#[test]
+fn a_copied_process_is_the_same(rt: HostRuntime) {
+    let section = process(ANNOUNCER);
+    assert!(rt; section.copy().is_same(&section));
+    assert!(rt; !section.is_same(&process(CHECKER)));
 }
 
 #[test]
@@ -274,10 +274,15 @@ fn a_reload_keeps_equal_settings_and_resets_others(rt: HostRuntime) -> Result<()
     let old = timed(rt.alloc(), &[(FIRST, 180), (SECOND, 180), (THIRD, 180)])?;
     let new = timed(rt.alloc(), &[(FOURTH, 180), (SECOND, 90), (FIRST, 180)])?;
     let plan = found(reload_plan(rt.alloc(), &old, &new))?;
-    assert_eq!(rt; plan.keep.as_slice(), [Addr::V4(FIRST)].as_slice());
-    assert_eq!(rt; plan.reset.as_slice(), [Addr::V4(SECOND)].as_slice());
-    assert_eq!(rt; plan.add.as_slice(), [Addr::V4(FOURTH)].as_slice());
-    assert_eq!(rt; plan.remove.as_slice(), [Addr::V4(THIRD)].as_slice());
+    let table = [
+        ("keep", plan.keep.as_slice(), FIRST),
+        ("reset", plan.reset.as_slice(), SECOND),
+        ("add", plan.add.as_slice(), FOURTH),
+        ("remove", plan.remove.as_slice(), THIRD),
+    ];
+    'lists: for (list, peers, wanted) in table {
+        assert_eq!(rt; peers, [Addr::V4(wanted)].as_slice(), "{list}");
+    }
     Ok(())
 }
 
