@@ -1,5 +1,4 @@
 //! Sessions, from the bytes that come to those that are sent.
-mod malformed;
 mod messages;
 
 use crate::{Action, Actions, Event, Machine, State};
@@ -7,7 +6,6 @@ use answers::NoMemory;
 use attr_codec::Message;
 use frame_cutter::kinds::{KEEPALIVE, NOTIFICATION, OPEN, ROUTE_REFRESH, UPDATE};
 use frame_cutter::{FrameCutter, Next};
-use malformed::{Found, MALFORMED, Malformed};
 use messages::{OWN_OPEN, PEERS_OPEN, SHUTDOWN, TRANSIT, WHOLE_KEEPALIVE};
 use route_values::{Caps, Family};
 use session_codec::codes::{ADMINISTRATIVE_SHUTDOWN, CEASE};
@@ -38,15 +36,6 @@ fn event_in(cutter: &FrameCutter) -> Option<Event<'_>> {
     }
 }
 
-fn found_in(cutter: &FrameCutter) -> Found {
-    match event_in(cutter) {
-        None => Found::NotYet,
-        Some(Event::Bad(refusal)) => Found::Fault(refusal.code, refusal.sub),
-        Some(Event::Open(Err(refusal))) => Found::Refused(refusal.code, refusal.sub),
-        Some(_) => Found::Message,
-    }
-}
-
 // The message that the first action sends, if it sends one.
 fn sent_by(alloc: Global, actions: &Actions) -> Result<Message, NoMemory> {
     let mut out = Message::new(alloc, 4096)?;
@@ -57,31 +46,6 @@ fn sent_by(alloc: Global, actions: &Actions) -> Result<Message, NoMemory> {
         _ => (),
     }
     Ok(out)
-}
-
-#[test]
-fn malformed_input_is_answered_and_ends_the_session(rt: HostRuntime) -> Result<(), Fail> {
-    let mut cutter = FrameCutter::new(rt.alloc())?;
-    for Malformed {
-        what,
-        input,
-        found,
-        answer,
-    } in MALFORMED {
-        let mut machine = Machine::new(TRANSIT);
-        machine.step(Event::Connected);
-        cutter.reset();
-        assert_eq!(rt; cutter.feed(input), input.len(), "{what}");
-        assert_eq!(rt; found_in(&cutter), found, "{what}");
-        let Some(event) = event_in(&cutter) else {
-            continue;
-        };
-        let actions = machine.step(event);
-        assert_eq!(rt; sent_by(rt.alloc(), &actions)?.bytes(), answer, "{what}");
-        assert!(rt; actions[1..] == [Action::Close], "{what}");
-        assert!(rt; machine.state() == State::Idle, "{what}");
-    }
-    Ok(())
 }
 
 #[test]
