@@ -4,7 +4,7 @@ use Rattle.std.proofs.Common.{Option, Some, None, ap, sym, ◌∙◌, refl, subs
 use Rattle.std.specs.Option.{option_to_list}
 use Rattle.std.proofs.lemmas.Bool.{eqb-true, ltb-false}
 use Rattle.std.proofs.lemmas.List.{append-nil, take_all, take-append-drop}
-use Rattle.text_forms.specs.Lines.{Line, Text, TooLong, without_return, is_blank_part, line_or_none, lines}
+use Rattle.text_forms.specs.Lines.{Line, Text, TooLong, without_return, line_or_none, lines}
 use Rattle.line_cutter.specs.Contents.{content_of, is_blank_content}
 use Rattle.line_cutter.specs.Unfinished.{unfinished}
 use Rattle.line_cutter.specs.Cutting.{Cutting, fresh, waiting, standing, grown, closed, after, fed, count_of, advanced}

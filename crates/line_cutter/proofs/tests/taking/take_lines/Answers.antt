@@ -1,4 +1,3 @@
-use Rattle.std.proofs.Common.{length}
 use Rattle.text_forms.specs.LineTold.{line_told}
 use Rattle.line_cutter.proofs.ChunkingLemmas.{taking_next, taking_end}
 use Rattle.line_cutter.proofs.tests.taking.take_lines.Goals as goal
