@@ -1,0 +1,3 @@
+pub mod ProductionLemmas
+pub mod RepeatedLemmas
+pub mod AnsweredLemmas
