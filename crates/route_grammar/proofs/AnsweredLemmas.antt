@@ -1,17 +1,16 @@
 -- Answers of readers that are put together, over the tokens that stand before them and those that they leave.
-use Rattle.std.proofs.Common.{ℕ, ◌≡◌, List, [], ◌∷◌, ◌++◌, length, Option, Some, None, Result, Ok, Err, map}
+use Rattle.std.proofs.Common.{◌≡◌, List, [], ◌∷◌, ◌++◌, length, Option, Some, None, Result, Ok, Err}
 use Rattle.std.proofs.Common.{ap, sym, ◌∙◌, refl, subst, append_assoc}
 use Rattle.std.proofs.lemmas.List.{map-append}
 use Rattle.token_reader.specs.declared.token.Place.{Place}
 use Rattle.token_reader.specs.Tokens.{Token, Placed, front_token}
-use Rattle.route_grammar.specs.declared.fault.LineFault.{LineFault}
 use Rattle.route_grammar.specs.declared.fault.LineFault.TheVariants.{BadToken, TooMany, TooLong}
 use Rattle.route_grammar.specs.declared.fault.ReadFault.{ReadFault}
 use Rattle.route_grammar.specs.declared.fault.ReadFault.TheVariants.{Line, NoMemory}
 use Rattle.route_grammar.specs.Limits.{Counted, Limits}
 use Rattle.route_grammar.specs.Productions.{Production, Further, IsFault, IsRead, Then, Saying, all_further}
 use Rattle.route_grammar.specs.Productions.{IsFirstFault, front}
-use Rattle.route_grammar.specs.Answered.{tokens_of, column, Faults, Reads, Blames, Answers}
+use Rattle.route_grammar.specs.Answered.{tokens_of, Faults, Reads, Answers}
 use Rattle.route_grammar.proofs.ProductionLemmas.{front_or, Leads, HasReading, Grows, IsChosen}
 use Rattle.route_grammar.proofs.ProductionLemmas.{then_fault_first, then_fault_second, then_read, saying_read}
 use Rattle.route_grammar.proofs.ProductionLemmas.{saying_fault, chosen_read, chosen_fault}

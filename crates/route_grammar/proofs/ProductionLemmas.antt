@@ -1,10 +1,10 @@
 -- Productions that are put together: how what is read, or the first fault, of a part makes that of the whole.
-use Rattle.std.proofs.Common.{ℕ, ◌≡◌, ◌≢◌, Bool, true, false, List, [], ◌∷◌, ◌++◌, Option, Some, None, ap, sym}
+use Rattle.std.proofs.Common.{ℕ, ◌≡◌, ◌≢◌, false, List, [], ◌∷◌, ◌++◌, Option, Some, None, ap, sym}
 use Rattle.std.proofs.Common.{◌∙◌, refl, subst, append_assoc}
 use Rattle.std.proofs.lemmas.List.{append_cancel_left}
 use Rattle.token_reader.specs.Tokens.{Token, Word}
 use Rattle.route_grammar.specs.Limits.{Counted, Limits, raised}
-use Rattle.route_grammar.specs.Productions.{Production, front, Begins, Further, nothing_further, IsHeld, IsOver}
+use Rattle.route_grammar.specs.Productions.{Production, front, Begins, Further, nothing_further, IsOver}
 use Rattle.route_grammar.specs.Productions.{IsFault, IsRead, OneToken, OneWord, Then, Saying}
 
 -- the front token of some tokens, or else that behind them

@@ -1,13 +1,13 @@
 -- Readings of a production that are put end to end, and what stands between two signs.
-use Rattle.std.proofs.Common.{ℕ, ◌≡◌, ◌≢◌, Bool, true, false, List, [], ◌∷◌, ◌++◌, Option, Some, None, ap, sym}
+use Rattle.std.proofs.Common.{◌≡◌, ◌≢◌, true, false, List, [], ◌∷◌, ◌++◌, Option, Some, ap, sym}
 use Rattle.std.proofs.Common.{◌∙◌, refl, subst, append_assoc, append-nil}
 use Rattle.std.proofs.lemmas.List.{append_cancel_left}
 use Rattle.std.proofs.lemmas.Bool.{false≢true}
-use Rattle.token_reader.specs.Tokens.{Token, Word}
-use Rattle.route_grammar.specs.Limits.{Counted, Limits, raised}
+use Rattle.token_reader.specs.Tokens.{Token}
+use Rattle.route_grammar.specs.Limits.{Counted, Limits}
 use Rattle.route_grammar.specs.Productions.{Production, front, Begins, Further, nothing_further, IsHeld, IsOver}
 use Rattle.route_grammar.specs.Productions.{IsFault, IsRead, Repeated, Bracketed}
-use Rattle.route_grammar.proofs.ProductionLemmas.{front_or, front_at, front_append, HasReading}
+use Rattle.route_grammar.proofs.ProductionLemmas.{front_or, front_at}
 
 -- each reading begins with a token that goes on
 abbrev pub Starts : {V : Type 0} → Production V → Further → Type 0
