@@ -1,5 +1,5 @@
 -- Productions of a grammar of tokens, which tokens begin a reading, and the first fault of tokens.
-use Rattle.std.specs.Prelude.{ℕ, ◌≡◌, ◌≢◌, Bool, true, false, List, [], ◌∷◌, ◌++◌, length, Option, Some, None}
+use Rattle.std.specs.Prelude.{ℕ, ◌≡◌, ◌≢◌, ◌⊎◌, Bool, true, false, List, [], ◌∷◌, ◌++◌, length, Option, Some, None}
 use Rattle.token_reader.specs.Tokens.{Token, Word}
 use Rattle.route_grammar.specs.Limits.{Counted, Limits, raised}
 
@@ -83,6 +83,10 @@ Then {V = V} R S limits tokens value =
 -- what a production says, in other words
 abbrev pub Saying : {V W : Type 0} → (V → W) → Production V → Production W
 Saying {V = V} say R limits tokens value = (said : V) × (value ≡ say said) × R limits tokens said
+
+-- one production or another
+abbrev pub Either : {V : Type 0} → Production V → Production V → Production V
+Either R S limits tokens value = R limits tokens value ⊎ S limits tokens value
 
 -- readings of a production put end to end
 abbrev pub Repeated : {V : Type 0} → Production V → Limits → List Token → List V → Type 0

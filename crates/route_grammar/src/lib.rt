@@ -6,5 +6,8 @@
 #![tactic(auto)]
 
 mod fault;
+mod items;
+mod kind;
 
 pub use fault::{LineFault, ReadFault};
+pub use items::Items;
