@@ -31,7 +31,8 @@ tokens_append before left = map-append (λ one. one.token) before left
 -- a reader's fault is one of a whole that has its fault there
 pub fault_answers : {V W : Type 0} (R : Production V) (T : Production W) (further whole_further : Further)
     (limits : Limits) (tokens whole left : List Placed) (end : Place) (fault : ReadFault)
-    → ((over : Option Counted) → Faults R further limits tokens left over → Faults T whole_further limits whole left over)
+    → ((over : Option Counted) → Faults R further limits tokens left over → Faults T whole_further limits whole left
+    over)
     → Answers {V = V} R further limits tokens left end (Err fault)
     → Answers {V = W} T whole_further limits whole left end (Err fault)
 fault_answers R T further whole_further limits tokens whole left end (Line (BadToken place)) faults is =
@@ -54,17 +55,18 @@ then_faults_first R S first_further further limits tokens left over leads some f
 )
 
 -- the tokens before two parts
-both_before : (tokens mid left before inner : List Placed) → tokens ≡ before ++ mid → mid ≡ inner ++ left
+pub both_before : (tokens mid left before inner : List Placed) → tokens ≡ before ++ mid → mid ≡ inner ++ left
     → tokens ≡ (before ++ inner) ++ left
 both_before tokens mid left before inner first second =
     first ∙ ap (λ (rest : List Placed). before ++ rest) second ∙ sym (append_assoc before inner left)
 
-lead_of : (mid left inner : List Placed) → mid ≡ inner ++ left
+pub lead_of : (mid left inner : List Placed) → mid ≡ inner ++ left
     → front_token mid ≡ front_or (tokens_of inner) (front_token left)
 lead_of mid left inner is = ap front_token is ∙ front_token_or inner left
 
 pub then_faults_second : {V W : Type 0} (R : Production V) (S : V → Production W) (first_further further : Further)
-    (limits : Limits) (tokens mid left : List Placed) (first : V) (over : Option Counted) → Leads first_further further S
+    (limits : Limits) (tokens mid left : List Placed) (first : V) (over : Option Counted) → Leads first_further
+    further S
     → Grows R → Reads R first_further limits tokens mid first → Faults (S first) further limits mid left over
     → Faults (Then R S) further limits tokens left over
 then_faults_second R S first_further further limits tokens mid left first over leads grows read faults = (
@@ -98,7 +100,8 @@ then_answers R S first_further further limits tokens mid left end first (Ok valu
     then_reads R S first_further further limits tokens mid left first value leads read is
 then_answers R S first_further further limits tokens mid left end first (Err fault) leads grows read is =
     fault_answers (S first) (Then R S) further further limits mid tokens left end fault
-    (λ over faults. then_faults_second R S first_further further limits tokens mid left first over leads grows read faults)
+    (λ over faults. then_faults_second R S first_further further limits tokens mid left first over leads grows read
+    faults)
     is
 
 -- and so is a fault of the first reader
@@ -148,7 +151,8 @@ chosen_answers R T further limits tokens left end lead (Err fault) chosen begins
 -- THE WHOLE LINE
 
 -- where all tokens have to be read, a reader's fault is the first fault of them
-pub first_fault_of : {V : Type 0} (R : Production V) (limits : Limits) (tokens left : List Placed) (over : Option Counted)
+pub first_fault_of : {V : Type 0} (R : Production V) (limits : Limits) (tokens left : List Placed) (over : Option
+    Counted)
     → (faults : Faults R all_further limits tokens left over)
     → IsFirstFault R limits (tokens_of tokens) (length (tokens_of faults.0)) over
 first_fault_of R limits tokens left over faults = (

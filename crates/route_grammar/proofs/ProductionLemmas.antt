@@ -17,7 +17,8 @@ front_append [] rest = refl
 front_append (first ∷ before) rest = refl
 
 -- the front of tokens behind which this token stands
-pub front_at : (before rest : List Token) (token lead : Option Token) → front rest ≡ token → lead ≡ front_or before token
+pub front_at : (before rest : List Token) (token lead : Option Token) → front rest ≡ token → lead ≡ front_or before
+    token
     → front (before ++ rest) ≡ lead
 front_at before rest token lead at leads = front_append before rest ∙ ap (front_or before) at ∙ sym leads
 
@@ -97,7 +98,8 @@ begins_then : {V W : Type 0} (R : Production V) (S : V → Production W) → ((f
     → (limits : Limits) (before : List Token) → Begins R limits before → Begins (Then R S) limits before
 begins_then R S some limits before begins =
     let second = some begins.1 limits in
-    (begins.0 ++ second.0, second.1, (begins.1, before ++ begins.0, second.0, sym (append_assoc before begins.0 second.0),
+    (begins.0 ++ second.0, second.1, (begins.1, before ++ begins.0, second.0, sym (append_assoc before begins.0
+    second.0),
     begins.2, second.2))
 
 over_then : {V W : Type 0} (R : Production V) (S : V → Production W) → ((first : V) → HasReading (S first))
@@ -127,7 +129,8 @@ second_of : {V W : Type 0} (R : Production V) (S : V → Production W) (first_fu
     → front rest ≡ token → (before ++ inner) ++ rest ≡ tokens ++ others → Then R S held tokens value
     → further (front others) ≡ false
     → (back : List Token) × (tokens ≡ before ++ back) × (inner ++ rest ≡ back ++ others) × S first held back value
-second_of R S first_further further limits before inner rest tokens others token lead first value held first_read leads_is
+second_of R S first_further further limits before inner rest tokens others token lead first value held first_read
+    leads_is
     leads at same read ends =
     let whole = sym (append_assoc before inner rest) ∙ cut_again ((before ++ inner) ++ rest) tokens others read.1 read.2
     same read.3 in
@@ -191,7 +194,8 @@ then_fault_second R S first_further further limits before inner token lead first
     ),
   );
   none = λ held rest tokens others value is_held at same read ends.
-      let second = second_of R S first_further further limits before inner rest tokens others token lead first value held
+      let second = second_of R S first_further further limits before inner rest tokens others token lead first value
+      held
       first_read leads_is leads at same read ends in
       fault.none held rest second.0 others value is_held at second.2 second.3 ends;
   over_is = over_behind R S limits before inner token first over grows first_read.found fault.over_is;
@@ -254,7 +258,8 @@ pub record IsChosen {V : Type 0} (R T : Production V) (further : Further) (lead 
 -- such tokens begin with that one
 lead_same : (before rest tokens others : List Token) (token lead : Option Token) → front rest ≡ token
     → lead ≡ front_or before token → before ++ rest ≡ tokens ++ others → front (tokens ++ others) ≡ lead
-lead_same before rest tokens others token lead at leads same = ap front (sym same) ∙ front_at before rest token lead at leads
+lead_same before rest tokens others token lead at leads same = ap front (sym same) ∙ front_at before rest token lead
+    at leads
 
 pub chosen_read : {V : Type 0} (R T : Production V) (further : Further) (limits : Limits) (before : List Token)
     (token lead : Option Token) (value : V) → IsChosen R T further lead → lead ≡ front_or before token

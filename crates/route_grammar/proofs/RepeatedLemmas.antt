@@ -4,10 +4,10 @@ use Rattle.std.proofs.Common.{◌∙◌, refl, subst, append_assoc, append-nil}
 use Rattle.std.proofs.lemmas.List.{append_cancel_left}
 use Rattle.std.proofs.lemmas.Bool.{false≢true}
 use Rattle.token_reader.specs.Tokens.{Token}
-use Rattle.route_grammar.specs.Limits.{Counted, Limits}
+use Rattle.route_grammar.specs.Limits.{Counted, Limits, raised}
 use Rattle.route_grammar.specs.Productions.{Production, front, Begins, Further, nothing_further, IsHeld, IsOver}
 use Rattle.route_grammar.specs.Productions.{IsFault, IsRead, Repeated, Bracketed}
-use Rattle.route_grammar.proofs.ProductionLemmas.{front_or, front_at}
+use Rattle.route_grammar.proofs.ProductionLemmas.{front_or, front_at, Grows}
 
 -- each reading begins with a token that goes on
 abbrev pub Starts : {V : Type 0} → Production V → Further → Type 0
@@ -24,6 +24,33 @@ pub record AreSoFar {V : Type 0} (R : Production V) (starts : Further) (limits :
       → before ++ rest ≡ tokens ++ others → Repeated R held tokens said → starts (front others) ≡ false
       → (more : List V) × (back : List Token) × (said ≡ values ++ more) × (tokens ≡ before ++ back)
       × (rest ≡ back ++ others) × Repeated R held back more
+
+-- two rows of readings, put end to end
+pub repeated_append : {V : Type 0} (R : Production V) (limits : Limits) (before back : List Token)
+    (values more : List V) → Repeated R limits before values → Repeated R limits back more
+    → Repeated R limits (before ++ back) (values ++ more)
+repeated_append R limits before back [] more read further =
+    subst (λ (tokens : List Token). Repeated R limits tokens more)
+    (sym (ap (λ (tokens : List Token). tokens ++ back) read)) further
+repeated_append R limits before back (first ∷ values) more read further = (
+  read.0,
+  read.1 ++ back,
+  ap (λ (tokens : List Token). tokens ++ back) read.2 ∙ append_assoc read.0 read.1 back,
+  read.3,
+  repeated_append R limits read.1 back values more read.4 further,
+)
+
+pub repeated_grows : {V : Type 0} (R : Production V) → Grows R → (limits : Limits) (which : Counted) (before : List
+    Token)
+    (values : List V) → Repeated R limits before values → Repeated R (raised which limits) before values
+repeated_grows R grows limits which before [] read = read
+repeated_grows R grows limits which before (first ∷ values) read = (
+  read.0,
+  read.1,
+  read.2,
+  grows limits which read.0 first read.3,
+  repeated_grows R grows limits which read.1 values read.4,
+)
 
 pub none_so_far : {V : Type 0} (R : Production V) (starts : Further) (limits : Limits) (token : Option Token)
     → AreSoFar R starts limits [] token []
@@ -151,12 +178,13 @@ bracketed_read opening closing R Fit starts limits inner token values begin ends
 -- what goes on before the closing sign, where that isn't next, is a reading and further ones
 behind_readings : {V : Type 0} (closing : Token) (R : Production V) (Fit : Limits → List V → Type 0) (held : Limits)
     (text rest back others : List Token) (lead : Option Token) (values more said : List V) → front (text ++ rest) ≡ lead
-    → lead ≢ Some closing → text ++ rest ≡ back ++ (closing ∷ others) → Repeated R held back more
+    → (Fit held values → lead ≢ Some closing) → text ++ rest ≡ back ++ (closing ∷ others) → Repeated R held back more
     → said ≡ values ++ more → Fit held said
     → ((next tail : List Token) (value : V) (further : List V) → text ++ rest ≡ next ++ (tail ++ (closing ∷ others))
     → R held next value → Repeated R held tail further → Fit held (values ++ value ∷ further) → ⊥) → ⊥
 behind_readings closing R Fit held text rest back others lead values [] said at still same read said_is fit none =
-    still (sym at ∙ ap front (same ∙ ap (λ (tokens : List Token). tokens ++ (closing ∷ others)) read))
+    still (subst (λ all. Fit held all) (said_is ∙ append-nil values) fit)
+    (sym at ∙ ap front (same ∙ ap (λ (tokens : List Token). tokens ++ (closing ∷ others)) read))
 behind_readings closing R Fit held text rest back others lead values (value ∷ more) said at still same read said_is fit
     none =
     none read.0 read.1 value more
@@ -169,7 +197,7 @@ behind_readings closing R Fit held text rest back others lead values (value ∷ 
 pub bracketed_fault : {V : Type 0} (opening closing : Token) (R : Production V) (Fit : Limits → List V → Type 0)
     (starts : Further) (limits : Limits) (inner text : List Token) (token lead : Option Token) (over : Option Counted)
     (values : List V) → starts (Some closing) ≡ false → AreSoFar R starts limits inner lead values
-    → lead ≡ front_or text token → lead ≢ Some closing
+    → lead ≡ front_or text token → ((held : Limits) → Fit held values → lead ≢ Some closing)
     → Begins (Bracketed opening closing R Fit) limits (opening ∷ (inner ++ text))
     → IsOver (Bracketed opening closing R Fit) limits (opening ∷ (inner ++ text)) token over
     → ((held : Limits) (rest next tail others : List Token) (value : V) (more : List V) → IsHeld limits token over held
@@ -185,7 +213,8 @@ bracketed_fault opening closing R Fit starts limits inner text token lead over v
           ∙ inside opening closing ((inner ++ text) ++ rest) tokens others read.0 same read.1 in
       let lead_at = front_at text rest token lead at leads in
       let more = so_far.only held (text ++ rest) read.0 (closing ∷ others) said lead_at whole read.2 ends in
-      behind_readings closing R Fit held text rest more.1 others lead values more.0 said lead_at still more.4 more.5 more.2
+      behind_readings closing R Fit held text rest more.1 others lead values more.0 said lead_at (still held) more.4
+      more.5 more.2
       read.3
       (λ next tail value further behind read_next read_tail fit.
       none held rest next tail (closing ∷ others) value further is_held at behind read_next read_tail fit);

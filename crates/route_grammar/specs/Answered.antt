@@ -1,7 +1,7 @@
 -- What a reader of a production answers, and which tokens it leaves.
-use Rattle.std.specs.Prelude.{ℕ, ◌≡◌, List, ◌++◌, map, Option, Some, None, Result, Ok, Err}
+use Rattle.std.specs.Prelude.{ℕ, ◌≡◌, ◌⊎◌, List, ◌++◌, map, Option, Some, None, Result, Ok, Err}
 use Rattle.token_reader.specs.declared.token.Place.{Place}
-use Rattle.token_reader.specs.Tokens.{Token, Placed, front_token, front_place}
+use Rattle.token_reader.specs.Tokens.{Token, Word, Placed, front_token, front_place}
 use Rattle.route_grammar.specs.declared.fault.LineFault.{LineFault}
 use Rattle.route_grammar.specs.declared.fault.LineFault.TheVariants.{BadToken, TooMany, TooLong}
 use Rattle.route_grammar.specs.declared.fault.ReadFault.{ReadFault}
@@ -30,11 +30,13 @@ Reads R further limits tokens left value =
     × IsRead R further limits (tokens_of before) (front_token left) value
 
 -- a fault names the front token's column, or the end's, and of a list over its limit that limit
-abbrev pub Blames : {V : Type 0} → Production V → Further → Limits → List Placed → List Placed → Place → LineFault → Type 0
+abbrev pub Blames : {V : Type 0} → Production V → Further → Limits → List Placed → List Placed → Place → LineFault →
+    Type 0
 Blames R further limits tokens left end (BadToken place) =
     (place ≡ column left end) × Faults R further limits tokens left None
 Blames R further limits tokens left end (TooMany place limit) =
-    (which : Counted) × (limit ≡ limits which) × (place ≡ column left end) × Faults R further limits tokens left (Some which)
+    (which : Counted) × (limit ≡ limits which) × (place ≡ column left end) × Faults R further limits tokens left (Some
+    which)
 Blames R further limits tokens left end TooLong = ⊥
 
 -- A reader's answer to the tokens, of which these are left: the value, the first fault, or want of memory, which may
@@ -44,3 +46,11 @@ abbrev pub Answers : {V : Type 0} → Production V → Further → Limits → Li
 Answers R further limits tokens left end (Ok value) = Reads R further limits tokens left value
 Answers R further limits tokens left end (Err (Line fault)) = Blames R further limits tokens left end fault
 Answers R further limits tokens left end (Err NoMemory) = Unit {0}
+
+-- where a list is full, the front token is one element too many, or it is none
+abbrev pub IsNoRoom : {V : Type 0} → (List ℕ → V → Type 0) → List Placed → Place → ℕ → ReadFault → Type 0
+IsNoRoom {V = V} Spells left end limit fault =
+    ((word : List ℕ) × (value : V) × (front_token left ≡ Some (Word word)) × Spells word value
+    × (fault ≡ Line (TooMany (column left end) limit)))
+    ⊎ (((word : List ℕ) (value : V) → front_token left ≡ Some (Word word) → Spells word value → ⊥)
+    × (fault ≡ Line (BadToken (column left end))))

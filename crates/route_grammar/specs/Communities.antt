@@ -1,6 +1,6 @@
 -- Words that spell communities (RFC 1997), extended communities (RFC 4360), large communities (RFC 8092) and
 -- aggregators.
-use Rattle.std.specs.Prelude.{ℕ, ◌≡◌, ◌⊎◌, ◌+◌, ◌*◌, ◌<◌, ◌≤◌, ◌^◌, codes, decimal, List, [], ◌∷◌, ◌++◌, length}
+use Rattle.std.specs.Prelude.{ℕ, ◌≡◌, ◌⊎◌, ◌+◌, ◌*◌, ◌<◌, ◌≤◌, ◌^◌, codes, decimal, List, ◌∷◌, ◌++◌, length}
 use Rattle.std.specs.Int.{w16, w32, w64, to_be_bytes}
 use Rattle.std.specs.Str.Parse.{AllDigits, digits_value}
 use Rattle.route_values.specs.declared.attrs.Aggregator.{Aggregator}

@@ -1,12 +1,11 @@
 -- Route items: what each says, and what they say together.
-use Rattle.std.specs.Prelude.{ℕ, ◌≡◌, ◌==◌, Bool, true, false, codes, bytes_eq, List, [], ◌∷◌, Option, Some, None}
+use Rattle.std.specs.Prelude.{ℕ, ◌≡◌, ◌==◌, Bool, true, false, codes, bytes_eq, List, [], ◌∷◌, Option, Some}
 use Rattle.std.specs.List.{list_any}
 use Rattle.route_values.specs.declared.addr.Family.{Family}
 use Rattle.route_values.specs.declared.attrs.Hop.TheVariants.{Own}
-use Rattle.route_values.specs.declared.attrs.Attrs.{Attrs}
 use Rattle.route_values.specs.Attrs.{unwritten}
 use Rattle.text_forms.specs.Addresses.{IsIpv4}
-use Rattle.token_reader.specs.Tokens.{Token, Word}
+use Rattle.token_reader.specs.Tokens.{Word}
 use Rattle.route_grammar.specs.declared.kind.Kind.{Kind}
 use Rattle.route_grammar.specs.declared.kind.Kind.TheVariants as kind
 use Rattle.route_grammar.specs.declared.items.Item.{Item}
@@ -14,7 +13,7 @@ use Rattle.route_grammar.specs.declared.items.Item.TheVariants as item
 use Rattle.route_grammar.specs.declared.items.Items.{Items}
 use Rattle.route_grammar.specs.Limits.{Limits}
 use Rattle.route_grammar.specs.Limits as counted
-use Rattle.route_grammar.specs.Productions.{Production, Further, OneWord, Then, Saying, Repeated}
+use Rattle.route_grammar.specs.Productions.{Production, Further, OneWord, Then, Saying, Row}
 use Rattle.route_grammar.specs.Numbers.{IsNumber, IsPathId, IsHop, IsOrigin}
 use Rattle.route_grammar.specs.Communities.{IsCommunity, IsExtended, IsLarge, IsAggregator}
 use Rattle.route_grammar.specs.Lists.{ListOf, AloneOrIn, OnePath}
@@ -133,11 +132,13 @@ put_all read (one ∷ items) = put_all (put read one) items
 abbrev pub none_written : Items
 none_written = record { attrs = unwritten Own; id = 0; has_hop = false }
 
+-- items of different kinds
+abbrev pub AreDifferent : Limits → List Item → Type 0
+AreDifferent limits items = AllDiffer [] items
+
 -- items of different kinds, and what they say together
 abbrev pub ReadsItems : Option Family → Production Items
-ReadsItems family limits tokens read =
-    (items : List Item) × Repeated (OneItem family) limits tokens items × AllDiffer [] items
-    × (read ≡ put_all none_written items)
+ReadsItems family = Row (OneItem family) AreDifferent (put_all none_written)
 
 -- an item goes on with items: a word that one begins with
 abbrev pub items_further : Further

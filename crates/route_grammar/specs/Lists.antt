@@ -23,10 +23,14 @@ closing_bracket = Mark 93
 abbrev pub AreFew : {V : Type 0} → Counted → Limits → List V → Type 0
 AreFew which limits values = length values ≤ limits which
 
+-- the list of one value
+abbrev pub single : {V : Type 0} → V → List V
+single value = value ∷ []
+
 -- one word, or words between brackets
 abbrev pub ListOf : {V : Type 0} → Counted → (List ℕ → V → Type 0) → Production (List V)
 ListOf which Spells =
-    Either (Saying (λ value. value ∷ []) (OneWord Spells))
+    Either (Saying single (OneWord Spells))
     (Bracketed opening_bracket closing_bracket (OneWord Spells) (AreFew which))
 
 -- one word, alone or between parentheses
@@ -48,9 +52,13 @@ IsSet before limits numbers = (0 < length numbers) × (before + length numbers �
 abbrev pub SetBehind : ℕ → Production (List ℕ)
 SetBehind before = Bracketed opening_paren closing_paren (OneWord IsAsn) (IsSet before)
 
--- a set within the limit, wherever it stands
+-- a number, or a set behind so many numbers
+abbrev pub PartBehind : ℕ → Production Part
+PartBehind before = Either (Saying Number (OneWord IsAsn)) (Saying Set (SetBehind before))
+
+-- a part of a path
 abbrev pub OnePart : Production Part
-OnePart = Either (Saying Number (OneWord IsAsn)) (Saying Set (SetBehind 0))
+OnePart = PartBehind 0
 
 -- how many numbers parts have
 abbrev pub count_of : List Part → ℕ
@@ -70,6 +78,16 @@ abbrev pub joined : List Part → List Segment
 joined [] = []
 joined (Number number ∷ parts) = onto number (joined parts)
 joined (Set numbers ∷ parts) = record { set = true; numbers = numbers } ∷ joined parts
+
+-- numbers outside parentheses, in front of segments
+abbrev pub lead : List ℕ → List Segment → List Segment
+lead [] segments = segments
+lead (number ∷ numbers) segments = onto number (lead numbers segments)
+
+-- and with a set or nothing behind them
+abbrev pub closed : List ℕ → List Segment
+closed [] = []
+closed (number ∷ numbers) = record { set = false; numbers = number ∷ numbers } ∷ []
 
 -- together no more numbers than the limit allows
 abbrev pub AreFewNumbers : Limits → List Part → Type 0

@@ -28,7 +28,8 @@ abbrev pub all_further : Further
 all_further (Some token) = true
 all_further None = false
 
--- The limits for which a token is at fault: those in force. At a word also those of which one is raised, besides the one
+-- The limits for which a token is at fault: those in force. At a word also those of which one is raised, besides the
+-- one
 -- that the word passes.
 pub data IsHeld (limits : Limits) (token : Option Token) (over : Option Counted) : Limits → Type 0 where
   in_force : IsHeld limits token over limits
@@ -47,7 +48,8 @@ pub record IsFault {V : Type 0} (R : Production V) (further : Further) (limits :
     (token : Option Token) (over : Option Counted) : Type 0 where
   pub begins : Begins R limits before
   pub none : (held : Limits) (rest tokens others : List Token) (value : V) → IsHeld limits token over held
-      → front rest ≡ token → before ++ rest ≡ tokens ++ others → R held tokens value → further (front others) ≡ false → ⊥
+      → front rest ≡ token → before ++ rest ≡ tokens ++ others → R held tokens value → further (front others) ≡ false
+      → ⊥
   pub over_is : IsOver R limits before token over
 
 -- These tokens are read as the value, and end before this token, or at the end: no other front of theirs is read, and
@@ -94,6 +96,11 @@ Repeated R limits tokens [] = tokens ≡ []
 Repeated R limits tokens (value ∷ values) =
     (text : List Token) × (rest : List Token) × (tokens ≡ text ++ rest) × R limits text value
     × Repeated R limits rest values
+
+-- readings that meet a condition together, and what they say
+abbrev pub Row : {V W : Type 0} → Production V → (Limits → List V → Type 0) → (List V → W) → Production W
+Row {V = V} R Fit say limits tokens said =
+    (values : List V) × Repeated R limits tokens values × Fit limits values × (said ≡ say values)
 
 -- a sign, readings that meet a condition together, and another sign
 abbrev pub Bracketed : {V : Type 0} → Token → Token → Production V → (Limits → List V → Type 0) → Production (List V)

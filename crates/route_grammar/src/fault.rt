@@ -36,6 +36,11 @@ pub enum ReadFault {
 }
 
 impl From<NoMemory> for ReadFault {
+    ghost use Rattle.std.specs.Prelude.{◌≡◌};
+    ghost use Rattle.route_grammar.specs.declared.fault.ReadFault.TheVariants as read_fault;
+
+    ghost from_gives = { λ memory fault. fault ≡ read_fault.NoMemory };
+
     fn from(_: NoMemory) -> ReadFault {
         ReadFault::NoMemory
     }
