@@ -70,7 +70,7 @@ along_faults S R Fit say starts limits tokens mid left over values grows along g
   along.before ++ faults.0,
   both_before tokens mid left along.before faults.0 along.tokens_are faults.1,
   subst (λ (before : List Token). IsFault (Row R Fit say) starts limits before (front_token left) over)
-  (sym (tokens_append along.before faults.0))
-  (row_fault S R Fit say starts limits (tokens_of along.before) (tokens_of faults.0) (front_token left)
-  (front_token mid) over values grows along.so_far (lead_of mid left faults.0 faults.1) goes_on next faults.2),
+      (sym (tokens_append along.before faults.0))
+      (row_fault S R Fit say starts limits (tokens_of along.before) (tokens_of faults.0) (front_token left)
+      (front_token mid) over values grows along.so_far (lead_of mid left faults.0 faults.1) goes_on next faults.2),
 )

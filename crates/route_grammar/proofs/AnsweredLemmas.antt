@@ -73,9 +73,9 @@ then_faults_second R S first_further further limits tokens mid left first over l
   read.0 ++ faults.0,
   both_before tokens mid left read.0 faults.0 read.1 faults.1,
   subst (λ (before : List Token). IsFault (Then R S) further limits before (front_token left) over)
-  (sym (tokens_append read.0 faults.0))
-  (then_fault_second R S first_further further limits (tokens_of read.0) (tokens_of faults.0) (front_token left)
-  (front_token mid) first over leads grows read.2 (lead_of mid left faults.0 faults.1) faults.2),
+      (sym (tokens_append read.0 faults.0))
+      (then_fault_second R S first_further further limits (tokens_of read.0) (tokens_of faults.0) (front_token left)
+      (front_token mid) first over leads grows read.2 (lead_of mid left faults.0 faults.1) faults.2),
 )
 
 pub then_reads : {V W : Type 0} (R : Production V) (S : V → Production W) (first_further further : Further)
@@ -86,9 +86,9 @@ then_reads R S first_further further limits tokens mid left first value leads re
   read.0 ++ second.0,
   both_before tokens mid left read.0 second.0 read.1 second.1,
   subst (λ (before : List Token). IsRead (Then R S) further limits before (front_token left) value)
-  (sym (tokens_append read.0 second.0))
-  (then_read R S first_further further limits (tokens_of read.0) (tokens_of second.0) (front_token left)
-  (front_token mid) first value leads read.2 (lead_of mid left second.0 second.1) second.2),
+      (sym (tokens_append read.0 second.0))
+      (then_read R S first_further further limits (tokens_of read.0) (tokens_of second.0) (front_token left)
+      (front_token mid) first value leads read.2 (lead_of mid left second.0 second.1) second.2),
 )
 
 -- the answer of a second reader is that of the whole
@@ -127,8 +127,11 @@ pub saying_answers : {V W : Type 0} (say : V → W) (R : Production V) (further 
     → Answers {V = W} (Saying say R) further limits tokens left end (Err fault)
 saying_answers say R further limits tokens left end fault is =
     fault_answers R (Saying say R) further further limits tokens tokens left end fault
-    (λ over faults. (faults.0, faults.1,
-    saying_fault say R further limits (tokens_of faults.0) (front_token left) over faults.2)) is
+    (λ over faults. (
+      faults.0,
+      faults.1,
+      saying_fault say R further limits (tokens_of faults.0) (front_token left) over faults.2,
+    )) is
 
 -- A CHOICE BY THE FRONT TOKEN
 
@@ -140,13 +143,16 @@ chosen_answers R T further limits tokens left end lead (Ok value) chosen begins 
   is.0,
   is.1,
   chosen_read R T further limits (tokens_of is.0) (front_token left) lead value chosen
-  (sym begins ∙ lead_of tokens left is.0 is.1) is.2,
+      (sym begins ∙ lead_of tokens left is.0 is.1) is.2,
 )
 chosen_answers R T further limits tokens left end lead (Err fault) chosen begins is =
     fault_answers R T further further limits tokens tokens left end fault
-    (λ over faults. (faults.0, faults.1,
-    chosen_fault R T further limits (tokens_of faults.0) (front_token left) lead over chosen
-    (sym begins ∙ lead_of tokens left faults.0 faults.1) faults.2)) is
+    (λ over faults. (
+      faults.0,
+      faults.1,
+      chosen_fault R T further limits (tokens_of faults.0) (front_token left) lead over chosen
+          (sym begins ∙ lead_of tokens left faults.0 faults.1) faults.2,
+    )) is
 
 -- THE WHOLE LINE
 

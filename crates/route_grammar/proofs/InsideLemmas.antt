@@ -72,12 +72,12 @@ inside_read opening closing R Fit starts limits tokens [] values begin ends insi
 inside_read opening closing R Fit starts limits tokens (last ∷ others) values begin ends inside at fit = (
   inside.sign ∷ (inside.inner ++ last ∷ []),
   inside.tokens_are ∙ ap (λ (rest : List Placed). inside.sign ∷ rest) (sym (append_assoc inside.inner (last ∷ [])
-    others)),
+      others)),
   subst (λ (before : List Token). IsRead (Bracketed opening closing R Fit) nothing_further limits before
-  (front_token others) values)
-  (closed_tokens inside.sign inside.inner last opening closing inside.sign_is (front_is last.token closing at))
-  (bracketed_read opening closing R Fit starts limits (tokens_of inside.inner) (front_token others) values begin ends
-  (subst (λ token. AreSoFar R starts limits (tokens_of inside.inner) token values) at inside.so_far) fit),
+      (front_token others) values)
+      (closed_tokens inside.sign inside.inner last opening closing inside.sign_is (front_is last.token closing at))
+      (bracketed_read opening closing R Fit starts limits (tokens_of inside.inner) (front_token others) values begin ends
+      (subst (λ token. AreSoFar R starts limits (tokens_of inside.inner) token values) at inside.so_far) fit),
 )
 
 -- further tokens behind these make readings with which the values meet the condition
@@ -95,9 +95,9 @@ completes_begins opening closing R Fit limits inner text values read completes =
   (
     inner ++ (text ++ completes.0),
     ap (λ (rest : List Token). opening ∷ rest)
-    (append_assoc inner text (completes.0 ++ closing ∷ [])
-    ∙ ap (λ (rest : List Token). inner ++ rest) (sym (append_assoc text completes.0 (closing ∷ [])))
-    ∙ sym (append_assoc inner (text ++ completes.0) (closing ∷ []))),
+        (append_assoc inner text (completes.0 ++ closing ∷ [])
+        ∙ ap (λ (rest : List Token). inner ++ rest) (sym (append_assoc text completes.0 (closing ∷ [])))
+        ∙ sym (append_assoc inner (text ++ completes.0) (closing ∷ []))),
     repeated_append R limits inner (text ++ completes.0) values completes.1 read completes.2,
     completes.3,
   ),
@@ -120,9 +120,9 @@ over_inside opening closing R Fit limits inner text token (Some which) values gr
   is.0,
   is.1,
   subst (λ (before : List Token). Begins (Bracketed opening closing R Fit) (raised which limits) before)
-  (ap (λ (rest : List Token). opening ∷ rest) (sym (append_assoc inner text (Word is.0 ∷ []))))
-  (completes_begins opening closing R Fit (raised which limits) inner (text ++ Word is.0 ∷ []) values
-  (repeated_grows R grows limits which inner values read) is.2),
+      (ap (λ (rest : List Token). opening ∷ rest) (sym (append_assoc inner text (Word is.0 ∷ []))))
+      (completes_begins opening closing R Fit (raised which limits) inner (text ++ Word is.0 ∷ []) values
+      (repeated_grows R grows limits which inner values read) is.2),
 )
 
 open_tokens : (sign : Placed) (inner text : List Placed) (opening : Token) → sign.token ≡ opening
@@ -145,21 +145,21 @@ pub inside_faults : {V : Type 0} (opening closing : Token) (R : Production V) (F
 inside_faults opening closing R Fit starts limits tokens mid left text over values grows ends inside mid_is still
     completes
     over_is none = (
-  inside.sign ∷ (inside.inner ++ text),
-  inside.tokens_are ∙ ap (λ (rest : List Placed). inside.sign ∷ (inside.inner ++ rest)) mid_is
-  ∙ ap (λ (rest : List Placed). inside.sign ∷ rest) (sym (append_assoc inside.inner text left)),
-  subst (λ (before : List Token). IsFault (Bracketed opening closing R Fit) nothing_further limits before
-  (front_token left) over)
-  (open_tokens inside.sign inside.inner text opening inside.sign_is)
-  (bracketed_fault opening closing R Fit starts limits (tokens_of inside.inner) (tokens_of text) (front_token left)
-  (front_token mid) over values ends inside.so_far (lead_of mid left text mid_is) still
-  (completes_begins opening closing R Fit limits (tokens_of inside.inner) (tokens_of text) values inside.so_far.found
-  completes)
-  (over_inside opening closing R Fit limits (tokens_of inside.inner) (tokens_of text) (front_token left) over values
-    grows
-  inside.so_far.found over_is)
-  none),
-)
+      inside.sign ∷ (inside.inner ++ text),
+      inside.tokens_are ∙ ap (λ (rest : List Placed). inside.sign ∷ (inside.inner ++ rest)) mid_is
+          ∙ ap (λ (rest : List Placed). inside.sign ∷ rest) (sym (append_assoc inside.inner text left)),
+      subst (λ (before : List Token). IsFault (Bracketed opening closing R Fit) nothing_further limits before
+          (front_token left) over)
+          (open_tokens inside.sign inside.inner text opening inside.sign_is)
+          (bracketed_fault opening closing R Fit starts limits (tokens_of inside.inner) (tokens_of text) (front_token left)
+          (front_token mid) over values ends inside.so_far (lead_of mid left text mid_is) still
+          (completes_begins opening closing R Fit limits (tokens_of inside.inner) (tokens_of text) values inside.so_far.found
+          completes)
+          (over_inside opening closing R Fit limits (tokens_of inside.inner) (tokens_of text) (front_token left) over values
+          grows
+          inside.so_far.found over_is)
+          none),
+    )
 
 -- What reads just that which goes on with these values, where it begins with this token, and meets the condition with
 -- them.
@@ -187,7 +187,7 @@ one_over S R Fit limits values lead text token (Some which) next is = (
   is.0,
   is.1,
   one_completes S R Fit limits (raised which limits) values lead (text ++ Word is.0 ∷ []) is.2.0 is.2.1
-  (λ one. raised_more which one limits) next is.2.2,
+      (λ one. raised_more which one limits) next is.2.2,
 )
 
 pub next_faults : {V : Type 0} (opening closing : Token) (S R : Production V) (Fit : Limits → List V → Type 0)

@@ -105,13 +105,12 @@ items_hopped family limits tokens read reads none =
     let hop : Item = item.NextHop Own in
     let all = put_more none_written reads.0 hop in
     let unwritten_hop : (put_all none_written reads.0).has_hop ≡ false =
-        sym (ap (λ (items : Items). items.has_hop) reads.3) ∙ none in
-    (
+    sym (ap (λ (items : Items). items.has_hop) reads.3) ∙ none in (
       put_all none_written (reads.0 ++ hop ∷ []),
       (
         reads.0 ++ hop ∷ [],
         repeated_more (OneItem family) limits tokens (Word (codes "next-hop") ∷ Word (codes "self") ∷ []) reads.0 hop
-        reads.1
+            reads.1
             (self_item family limits),
         differ_more [] reads.0 hop reads.2 (hop_unseen [] none_written reads.0 refl unwritten_hop),
         refl,

@@ -126,9 +126,10 @@ pub list_bracketed : {V : Type 0} (Spells : List ℕ → V → Type 0) (which : 
 list_bracketed Spells which = record {
   wider = λ limits tokens value read. inr read;
   same = λ limits tokens others value at ends read. elim read as (λ _. InBrackets which Spells limits tokens value) [
-    inl one ↦ let word : Some (Word one.2.0) ≡ Some (Mark 91) =
+    | inl one ↦ let word : Some (Word one.2.0) ≡ Some (Mark 91) =
         sym (ap (λ (text : List Token). front (text ++ others)) one.2.1) ∙ at in absurd cc
-    | inr read ↦ read ];
+    | inr read ↦ read
+  ];
 }
 
 pub list_single : {V : Type 0} (Spells : List ℕ → V → Type 0) (which : Counted) (lead : Option Token)
@@ -138,8 +139,9 @@ list_single Spells which lead other_lead = record {
   wider = λ limits tokens value read. inl read;
   same = λ limits tokens others value at ends read.
       elim read as (λ _. Saying single (OneWord Spells) limits tokens value) [
-      inl one ↦ one
-      | inr many ↦ absurd (other_lead (sym at ∙ ap (λ (text : List Token). front (text ++ others)) many.1)) ];
+        | inl one ↦ one
+        | inr many ↦ absurd (other_lead (sym at ∙ ap (λ (text : List Token). front (text ++ others)) many.1))
+      ];
 }
 
 -- THE ANSWERS OF A LIST'S READER
@@ -153,12 +155,13 @@ pub list_no_room : {V : Type 0} (Spells : List ℕ → V → Type 0) (which : Co
 list_no_room {V = V} Spells which tokens left end limit values fault is inside still few full no_room =
     elim no_room as (λ _. Answers {V = List V} (InBrackets which Spells) nothing_further lines_have tokens left end
     (Err fault)) [
-    inl many ↦ many_answers (InBrackets which Spells) nothing_further lines_have tokens left end fault which limit
-    many.4 is
-        (list_many Spells which lines_have tokens left values many.0 many.1 inside still many.2 many.3
-        (omega (arith, is, few, full)))
-    | inr bad ↦ bad_answers (InBrackets which Spells) nothing_further lines_have tokens left end fault bad.1
-        (list_bad Spells which lines_have tokens left values inside still bad.0 (omega (arith, is, few))) ]
+      | inl many ↦ many_answers (InBrackets which Spells) nothing_further lines_have tokens left end fault which limit
+          many.4 is
+          (list_many Spells which lines_have tokens left values many.0 many.1 inside still many.2 many.3
+          (omega (arith, is, few, full)))
+      | inr bad ↦ bad_answers (InBrackets which Spells) nothing_further lines_have tokens left end fault bad.1
+          (list_bad Spells which lines_have tokens left values inside still bad.0 (omega (arith, is, few)))
+    ]
 
 pub list_fault : {V : Type 0} (Spells : List ℕ → V → Type 0) (which : Counted) (tokens mid left : List Placed)
     (end : Place) (limit : ℕ) (values : List V) (fault : ReadFault) → limit ≡ lines_have which

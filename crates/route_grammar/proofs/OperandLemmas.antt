@@ -74,9 +74,9 @@ lead_kind : (family : Option Family) (one : Kind) (held : Limits) (text others :
     (read : OneItem family held text said) → front (text ++ others) ≡ Some (Word (keyword one)) → read.0 ≡ one
 lead_kind family one held text others said read at =
     let text_is : text ≡ Word read.4.0 ∷ read.2 =
-        read.3 ∙ ap (λ (tokens : List Token). tokens ++ read.2) read.4.1 in
+    read.3 ∙ ap (λ (tokens : List Token). tokens ++ read.2) read.4.1 in
     let word : read.4.0 ≡ keyword one =
-        word_same read.4.0 (keyword one) (sym (ap (λ (tokens : List Token). front (tokens ++ others)) text_is) ∙ at) in
+    word_same read.4.0 (keyword one) (sym (ap (λ (tokens : List Token). front (tokens ++ others)) text_is) ∙ at) in
     keyword_one read.0 one (sym read.4.2 ∙ word)
 
 pub item_is_next : (family : Option Family) (one : Kind) (limits : Limits) (items : List Item)
@@ -86,12 +86,11 @@ item_is_next family one limits items differ unseen = record {
   wider = λ held text said least read. (
     (one, read.1, read.2, read.3, (keyword one, read.4, refl), read.5),
     differ_more [] items said differ
-    (subst (λ (kind_said : Kind). is_among kind_said (seen_behind [] items) ≡ false)
-    (sym (operand_kind family one held read.2 said read.5)) unseen),
+        (subst (λ (kind_said : Kind). is_among kind_said (seen_behind [] items) ≡ false)
+        (sym (operand_kind family one held read.2 said read.5)) unseen),
   );
   same = λ held text others said more at read fits.
-      let kind_same : read.0 ≡ one = lead_kind family one held text others said read at in
-      (
+      let kind_same : read.0 ≡ one = lead_kind family one held text others said read at in (
         tt,
         read.1,
         read.2,
@@ -129,6 +128,6 @@ pub item_twice : (family : Option Family) (one : Kind) (items more : List Item) 
     → AllDiffer [] (items ++ said ∷ more) → ⊥
 item_twice family one items more held next others said seen at read differ =
     let kind_same : kind_of said ≡ one =
-        operand_kind family read.0 held read.2 said read.5 ∙ lead_kind family one held next others said read at in
+    operand_kind family read.0 held read.2 said read.5 ∙ lead_kind family one held next others said read at in
     false≢true (sym (differ_next [] items more said differ)
     ∙ ap (λ (kind_said : Kind). is_among kind_said (seen_behind [] items)) kind_same ∙ seen)

@@ -115,12 +115,12 @@ part_wider : (limits held : Limits) (parts : List Part) (text : List Token) (par
 part_wider limits held parts text part room least (inl one) = (
   inl one,
   subst (λ (read : Part). count_of (parts ++ read ∷ []) ≤ held Numbers) (sym one.1)
-  (omega (arith, room, least, count_append parts (Number one.0 ∷ []))),
+      (omega (arith, room, least, count_append parts (Number one.0 ∷ []))),
 )
 part_wider limits held parts text part room least (inr set) = (
   inr (set.0, set.1, (set.2.0, set.2.1, set.2.2, (set.2.3.0, omega (arith, set.2.3.1)))),
   subst (λ (read : Part). count_of (parts ++ read ∷ []) ≤ held Numbers) (sym set.1)
-  (omega (arith, set.2.3.1, count_append parts (Set set.0 ∷ []))),
+      (omega (arith, set.2.3.1, count_append parts (Set set.0 ∷ []))),
 )
 
 part_same : (held : Limits) (parts more : List Part) (text : List Token) (part : Part) → OnePart held text part
@@ -128,7 +128,7 @@ part_same : (held : Limits) (parts more : List Part) (text : List Token) (part :
 part_same held parts more text part (inl one) fits = inl one
 part_same held parts more text part (inr set) fits =
     let few : count_of (parts ++ Set set.0 ∷ more) ≤ held Numbers =
-        subst (λ (read : Part). count_of (parts ++ read ∷ more) ≤ held Numbers) set.1 fits in
+    subst (λ (read : Part). count_of (parts ++ read ∷ more) ≤ held Numbers) set.1 fits in
     inr (
       set.0,
       set.1,
@@ -180,10 +180,10 @@ no_part limits held token rest next tail others parts more part none full is_hel
     ∙ ap (λ (text : List Token). front (text ++ (tail ++ others))) one.2.1) one.2.2
 no_part limits held token rest next tail others parts more part none full is_held at same (inr set) fits =
     let sign : token ≡ Some (Mark 40) =
-        front_of rest next (tail ++ others) token at same
-        ∙ ap (λ (text : List Token). front (text ++ (tail ++ others))) set.2.1 in
+    front_of rest next (tail ++ others) token at same
+    ∙ ap (λ (text : List Token). front (text ++ (tail ++ others))) set.2.1 in
     let in_force : held ≡ limits =
-        held_at_sign limits held token None (λ word is. word_no_sign token word 40 is sign) is_held in
+    held_at_sign limits held token None (λ word is. word_no_sign token word 40 is sign) is_held in
     too_few held parts more next part
     (subst (λ (all : Limits). all Numbers ≤ count_of parts) (sym in_force) full) (inr set) fits
 
@@ -194,9 +194,15 @@ pub path_bad : (limits : Limits) (tokens left : List Placed) (parts : List Part)
 path_bad limits tokens left parts inside still none full =
     inside_faults opening_bracket closing_bracket OnePart AreFewNumbers part_further limits tokens left left [] None
     parts
-    part_grows refl inside refl (λ held fits. still)
-    ([], [], refl, subst (λ (all : List Part). count_of all ≤ limits Numbers) (sym (append-nil parts)) (omega (arith,
-    full)))
+    part_grows refl inside refl (λ held fits. still) (
+      [],
+      [],
+      refl,
+      subst (λ (all : List Part). count_of all ≤ limits Numbers) (sym (append-nil parts)) (omega (
+        arith,
+        full,
+      )),
+    )
     tt
     (λ held rest next tail others part more is_held at same read_next read_tail fits.
     no_part limits held (front_token left) rest next tail others parts more part none (omega (arith, full)) is_held at
@@ -209,12 +215,24 @@ pub path_many : (limits : Limits) (tokens left : List Placed) (parts : List Part
     → Faults InPath nothing_further limits tokens left (Some Numbers)
 path_many limits tokens left parts word value inside still at spelled full =
     inside_faults opening_bracket closing_bracket OnePart AreFewNumbers part_further limits tokens left left []
-    (Some Numbers) parts part_grows refl inside refl (λ held fits. still)
-    ([], [], refl, subst (λ (all : List Part). count_of all ≤ limits Numbers) (sym (append-nil parts)) (omega (arith,
-    full)))
-    (word, at, ([], Number value ∷ [],
-    (Word word ∷ [], [], refl, inl (value, refl, (word, refl, spelled)), refl),
-    omega (arith, full, raised_one Numbers limits, count_append parts (Number value ∷ []))))
+    (Some Numbers) parts part_grows refl inside refl (λ held fits. still) (
+      [],
+      [],
+      refl,
+      subst (λ (all : List Part). count_of all ≤ limits Numbers) (sym (append-nil parts)) (omega (
+        arith,
+        full,
+      )),
+    ) (
+      word,
+      at,
+      (
+        [],
+        Number value ∷ [],
+        (Word word ∷ [], [], refl, inl (value, refl, (word, refl, spelled)), refl),
+        omega (arith, full, raised_one Numbers limits, count_append parts (Number value ∷ [])),
+      ),
+    )
     (λ held rest next tail others part more is_held at_rest same read_next read_tail fits.
     let in_force : held Numbers ≡ limits Numbers = held_one limits held (front_token left) Numbers is_held in
     too_few held parts more next part (omega (arith, full, in_force)) read_next fits)

@@ -41,10 +41,11 @@ one_word_read Spells limits word token value spelled only = record {
   ends = refl;
   only = λ held rest tokens others said at same read none.
       let whole : Word word ∷ rest ≡ Word read.0 ∷ others =
-          same ∙ ap (λ (text : List Token). text ++ others) read.1 in
-      let is : read.0 ≡ word = word_same word read.0 rest others whole in
-      (read.1 ∙ ap (λ (text : List ℕ). Word text ∷ []) is,
-      only said (subst (λ (text : List ℕ). Spells text said) is read.2));
+      same ∙ ap (λ (text : List Token). text ++ others) read.1 in
+      let is : read.0 ≡ word = word_same word read.0 rest others whole in (
+        read.1 ∙ ap (λ (text : List ℕ). Word text ∷ []) is,
+        only said (subst (λ (text : List ℕ). Spells text said) is read.2),
+      );
 }
 
 pub one_word_fault : {V : Type 0} (Spells : List ℕ → V → Type 0) (limits : Limits) (token : Option Token)
@@ -97,10 +98,19 @@ HasReading {V = V} R = (limits : Limits) → (tokens : List Token) × (value : V
 begins_then : {V W : Type 0} (R : Production V) (S : V → Production W) → ((first : V) → HasReading (S first))
     → (limits : Limits) (before : List Token) → Begins R limits before → Begins (Then R S) limits before
 begins_then R S some limits before begins =
-    let second = some begins.1 limits in
-    (begins.0 ++ second.0, second.1, (begins.1, before ++ begins.0, second.0, sym (append_assoc before begins.0
-    second.0),
-    begins.2, second.2))
+    let second = some begins.1 limits in (
+      begins.0 ++ second.0,
+      second.1,
+      (
+        begins.1,
+        before ++ begins.0,
+        second.0,
+        sym (append_assoc before begins.0
+            second.0),
+        begins.2,
+        second.2,
+      ),
+    )
 
 over_then : {V W : Type 0} (R : Production V) (S : V → Production W) → ((first : V) → HasReading (S first))
     → (limits : Limits) (before : List Token) (token : Option Token) (over : Option Counted)
@@ -137,8 +147,7 @@ second_of R S first_further further limits before inner rest tokens others token
     let one = first_read.only held (inner ++ rest) read.1 (read.2 ++ others) read.0
     (front_at inner rest token lead at leads_is) whole read.4 (leads held read.0 read.2 others value read.5 ends) in
     let cut : before ++ (inner ++ rest) ≡ before ++ (read.2 ++ others) =
-        whole ∙ ap (λ (text : List Token). text ++ (read.2 ++ others)) one.0 in
-    (
+    whole ∙ ap (λ (text : List Token). text ++ (read.2 ++ others)) one.0 in (
       read.2,
       read.3 ∙ ap (λ (text : List Token). text ++ read.2) one.0,
       append_cancel_left before (inner ++ rest) (read.2 ++ others) cut,
@@ -167,7 +176,7 @@ over_behind R S limits before inner token first (Some which) grows found is = (
       before,
       (inner ++ Word is.0 ∷ []) ++ is.2.0,
       ap (λ (text : List Token). text ++ is.2.0) (append_assoc before inner (Word is.0 ∷ []))
-      ∙ append_assoc before (inner ++ Word is.0 ∷ []) is.2.0,
+          ∙ append_assoc before (inner ++ Word is.0 ∷ []) is.2.0,
       grows limits which before first found,
       is.2.2,
     ),
@@ -181,25 +190,25 @@ pub then_fault_second : {V W : Type 0} (R : Production V) (S : V → Production 
     → IsFault (Then R S) further limits (before ++ inner) token over
 then_fault_second R S first_further further limits before inner token lead first over leads grows first_read leads_is
     fault = record {
-  begins = (
-    fault.begins.0,
-    fault.begins.1,
-    (
-      first,
-      before,
-      inner ++ fault.begins.0,
-      append_assoc before inner fault.begins.0,
-      first_read.found,
-      fault.begins.2,
-    ),
-  );
-  none = λ held rest tokens others value is_held at same read ends.
-      let second = second_of R S first_further further limits before inner rest tokens others token lead first value
-      held
-      first_read leads_is leads at same read ends in
-      fault.none held rest second.0 others value is_held at second.2 second.3 ends;
-  over_is = over_behind R S limits before inner token first over grows first_read.found fault.over_is;
-}
+      begins = (
+        fault.begins.0,
+        fault.begins.1,
+        (
+          first,
+          before,
+          inner ++ fault.begins.0,
+          append_assoc before inner fault.begins.0,
+          first_read.found,
+          fault.begins.2,
+        ),
+      );
+      none = λ held rest tokens others value is_held at same read ends.
+          let second = second_of R S first_further further limits before inner rest tokens others token lead first value
+          held
+          first_read leads_is leads at same read ends in
+          fault.none held rest second.0 others value is_held at second.2 second.3 ends;
+      over_is = over_behind R S limits before inner token first over grows first_read.found fault.over_is;
+    }
 
 pub then_read : {V W : Type 0} (R : Production V) (S : V → Production W) (first_further further : Further)
     (limits : Limits) (before inner : List Token) (token lead : Option Token) (first : V) (value : W)

@@ -91,11 +91,10 @@ one_more R starts limits held text rest back others token value [] begin one at 
     ∙ begin limits text rest value one.found))
 one_more R starts limits held text rest back others token value (said ∷ more) begin one at same read ends =
     let whole : text ++ rest ≡ read.0 ++ (read.1 ++ others) =
-        same ∙ ap (λ (tokens : List Token). tokens ++ others) read.2 ∙ append_assoc read.0 read.1 others in
+    same ∙ ap (λ (tokens : List Token). tokens ++ others) read.2 ∙ append_assoc read.0 read.1 others in
     let is = one.only held rest read.0 (read.1 ++ others) said at whole read.3 refl in
     let cut : text ++ rest ≡ text ++ (read.1 ++ others) =
-        whole ∙ ap (λ (tokens : List Token). tokens ++ (read.1 ++ others)) is.0 in
-    (
+    whole ∙ ap (λ (tokens : List Token). tokens ++ (read.1 ++ others)) is.0 in (
       more,
       read.1,
       ap (λ (first : _). first ∷ more) is.1,
@@ -115,8 +114,7 @@ one_so_far R starts limits before text token lead values value begin so_far lead
       let first = so_far.only held (text ++ rest) tokens others said (front_at text rest token lead at leads)
       (sym (append_assoc before text rest) ∙ same) read ends in
       let next = one_more R starts limits held text rest first.1 others token value first.0 begin one at first.4 first.5
-      ends in
-      (
+      ends in (
         next.0,
         next.1,
         first.2 ∙ ap (λ (more : List _). values ++ more) next.2 ∙ sym (append_assoc values (value ∷ []) next.0),
@@ -150,7 +148,7 @@ no_more : {V : Type 0} (R : Production V) (starts : Further) (closing : Token) (
 no_more R starts closing held rest back others [] begin ends same read = (refl, read)
 no_more R starts closing held rest back others (value ∷ more) begin ends same read =
     let whole : closing ∷ rest ≡ read.0 ++ (read.1 ++ others) =
-        same ∙ ap (λ (tokens : List Token). tokens ++ others) read.2 ∙ append_assoc read.0 read.1 others in
+    same ∙ ap (λ (tokens : List Token). tokens ++ others) read.2 ∙ append_assoc read.0 read.1 others in
     absurd (false≢true (sym ends ∙ ap (λ (tokens : List Token). starts (front tokens)) whole
     ∙ begin held read.0 (read.1 ++ others) value read.3))
 
@@ -163,13 +161,12 @@ bracketed_read opening closing R Fit starts limits inner token values begin ends
   ends = refl;
   only = λ held rest tokens others said at same read none.
       let whole : inner ++ (closing ∷ rest) ≡ read.0 ++ (closing ∷ others) =
-          sym (append_assoc inner (closing ∷ []) rest)
-          ∙ inside opening closing ((inner ++ closing ∷ []) ++ rest) tokens others read.0 same read.1 in
+      sym (append_assoc inner (closing ∷ []) rest)
+      ∙ inside opening closing ((inner ++ closing ∷ []) ++ rest) tokens others read.0 same read.1 in
       let more = so_far.only held (closing ∷ rest) read.0 (closing ∷ others) said refl whole read.2 ends in
       let nothing = no_more R starts closing held rest more.1 (closing ∷ others) more.0 begin ends more.4 more.5 in
       let text : read.0 ≡ inner =
-          more.3 ∙ ap (λ (tail : List Token). inner ++ tail) nothing.1 ∙ append-nil inner in
-      (
+      more.3 ∙ ap (λ (tail : List Token). inner ++ tail) nothing.1 ∙ append-nil inner in (
         read.1 ∙ ap (λ (tail : List Token). opening ∷ (tail ++ closing ∷ [])) text,
         more.2 ∙ ap (λ (tail : List _). values ++ tail) nothing.0 ∙ append-nil values,
       );
@@ -206,17 +203,17 @@ pub bracketed_fault : {V : Type 0} (opening closing : Token) (R : Production V) 
     → IsFault (Bracketed opening closing R Fit) nothing_further limits (opening ∷ (inner ++ text)) token over
 bracketed_fault opening closing R Fit starts limits inner text token lead over values ends so_far leads still begins
     over_is none = record {
-  begins = begins;
-  none = λ held rest tokens others said is_held at same read ended.
-      let whole : inner ++ (text ++ rest) ≡ read.0 ++ (closing ∷ others) =
+      begins = begins;
+      none = λ held rest tokens others said is_held at same read ended.
+          let whole : inner ++ (text ++ rest) ≡ read.0 ++ (closing ∷ others) =
           sym (append_assoc inner text rest)
           ∙ inside opening closing ((inner ++ text) ++ rest) tokens others read.0 same read.1 in
-      let lead_at = front_at text rest token lead at leads in
-      let more = so_far.only held (text ++ rest) read.0 (closing ∷ others) said lead_at whole read.2 ends in
-      behind_readings closing R Fit held text rest more.1 others lead values more.0 said lead_at (still held) more.4
-      more.5 more.2
-      read.3
-      (λ next tail value further behind read_next read_tail fit.
-      none held rest next tail (closing ∷ others) value further is_held at behind read_next read_tail fit);
-  over_is = over_is;
-}
+          let lead_at = front_at text rest token lead at leads in
+          let more = so_far.only held (text ++ rest) read.0 (closing ∷ others) said lead_at whole read.2 ends in
+          behind_readings closing R Fit held text rest more.1 others lead values more.0 said lead_at (still held) more.4
+          more.5 more.2
+          read.3
+          (λ next tail value further behind read_next read_tail fit.
+          none held rest next tail (closing ∷ others) value further is_held at behind read_next read_tail fit);
+      over_is = over_is;
+    }

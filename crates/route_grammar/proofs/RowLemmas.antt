@@ -18,7 +18,7 @@ none_more : {V : Type 0} (R : Production V) (starts : Further) (held : Limits) (
 none_more R starts held rest back others [] begin ends same read = (refl, read)
 none_more R starts held rest back others (value ∷ more) begin ends same read =
     let whole : rest ≡ read.0 ++ (read.1 ++ others) =
-        same ∙ ap (λ (tokens : List Token). tokens ++ others) read.2 ∙ append_assoc read.0 read.1 others in
+    same ∙ ap (λ (tokens : List Token). tokens ++ others) read.2 ∙ append_assoc read.0 read.1 others in
     absurd (false≢true (sym ends ∙ ap (λ (tokens : List Token). starts (front tokens)) whole
     ∙ begin held read.0 (read.1 ++ others) value read.3))
 
@@ -32,8 +32,7 @@ row_read R Fit say starts limits before token values begin so_far fit ends = rec
   only = λ held rest tokens others said at same read ended.
       let more = so_far.only held rest tokens others read.0 at same read.1 ended in
       let nothing = none_more R starts held rest more.1 others more.0 begin
-          (ap (λ (lead : Option Token). starts lead) at ∙ ends) more.4 more.5 in
-      (
+      (ap (λ (lead : Option Token). starts lead) at ∙ ends) more.4 more.5 in (
         more.3 ∙ ap (λ (back : List Token). before ++ back) nothing.1 ∙ append-nil before,
         read.3 ∙ ap say (more.2 ∙ ap (λ (back : List _). values ++ back) nothing.0 ∙ append-nil values),
       );
@@ -88,8 +87,7 @@ row_begins : {V W : Type 0} (S R : Production V) (Fit : Limits → List V → Ty
     → ((one : Counted) → limits one ≤ held one) → IsNext S R Fit limits values lead → Repeated R held before values
     → Begins S held text → Begins (Row R Fit say) held (before ++ text)
 row_begins S R Fit say limits held before text lead values least next read begins =
-    let wide = next.wider held (text ++ begins.0) begins.1 least begins.2 in
-    (
+    let wide = next.wider held (text ++ begins.0) begins.1 least begins.2 in (
       begins.0,
       say (values ++ begins.1 ∷ []),
       (
@@ -111,9 +109,9 @@ row_over S R Fit say limits before text token lead (Some which) values grows nex
   is.0,
   is.1,
   subst (λ (tokens : List Token). Begins (Row R Fit say) (raised which limits) tokens)
-  (sym (append_assoc before text (Word is.0 ∷ [])))
-  (row_begins S R Fit say limits (raised which limits) before (text ++ Word is.0 ∷ []) lead values
-  (λ one. raised_more which one limits) next (repeated_grows R grows limits which before values read) is.2),
+      (sym (append_assoc before text (Word is.0 ∷ [])))
+      (row_begins S R Fit say limits (raised which limits) before (text ++ Word is.0 ∷ []) lead values
+      (λ one. raised_more which one limits) next (repeated_grows R grows limits which before values read) is.2),
 )
 
 -- a fault of the next reading
@@ -128,7 +126,7 @@ row_fault S R Fit say starts limits before text token lead over values grows so_
   none = λ held rest tokens others said is_held at same read ends.
       let lead_at = front_at text rest token lead at leads in
       let more = so_far.only held (text ++ rest) tokens others read.0 lead_at
-          (sym (append_assoc before text rest) ∙ same) read.1 ends in
+      (sym (append_assoc before text rest) ∙ same) read.1 ends in
       row_behind R Fit starts held text rest more.1 others lead values more.0 read.0 lead_at goes_on ends more.4 more.5
       more.2 read.2
       (λ part tail value further behind read_part read_tail fits.

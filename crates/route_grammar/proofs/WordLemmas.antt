@@ -22,8 +22,12 @@ pub many_answers : {V : Type 0} (R : Production V) (further : Further) (limits :
     → limit ≡ limits which → Faults R further limits tokens left (Some which)
     → Answers {V = V} R further limits tokens left end (Err fault)
 many_answers {V = V} R further limits tokens left end fault which limit is in_force faults =
-    subst (λ error. Answers {V = V} R further limits tokens left end (Err error)) (sym is) (which, in_force, refl,
-    faults)
+    subst (λ error. Answers {V = V} R further limits tokens left end (Err error)) (sym is) (
+      which,
+      in_force,
+      refl,
+      faults,
+    )
 
 word_is : (token : Token) (word : List ℕ) → Some token ≡ Some (Word word) → Word word ≡ token
 word_is token word same = cc
@@ -37,7 +41,7 @@ word_reads Spells limits (first ∷ others) word value at spelled only = (
   first ∷ [],
   refl,
   subst (λ (token : Token). IsRead (OneWord Spells) nothing_further limits (token ∷ []) (front_token others) value)
-  (word_is first.token word at) (one_word_read Spells limits word (front_token others) value spelled only),
+      (word_is first.token word at) (one_word_read Spells limits word (front_token others) value spelled only),
 )
 
 pub word_faults : {V : Type 0} (Spells : List ℕ → V → Type 0) (limits : Limits) (left : List Placed)

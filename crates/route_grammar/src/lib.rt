@@ -17,3 +17,6 @@ pub use items::Items;
 pub use lists::{no_room, read_list};
 pub use spellings::{Asn, Ipv4, Number};
 pub use words::{Spelling, bad_token, front_value, is_mark, read_word, too_many};
+
+#[cfg(test)]
+mod tests;

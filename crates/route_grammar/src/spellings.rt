@@ -53,19 +53,19 @@ impl Spelling for Ipv4 {
     }
 
     ghost is_some = { λ kind. (
-        decimal 0 ++ 46 ∷ (decimal 0 ++ 46 ∷ (decimal 0 ++ 46 ∷ decimal 0)),
-        0,
-        record {
-            first = 0;
-            second = 0;
-            third = 0;
-            fourth = 0;
-            first_small = Prim.omega arith;
-            second_small = Prim.omega arith;
-            third_small = Prim.omega arith;
-            fourth_small = Prim.omega arith;
-            text_is = refl;
-            value = refl;
-        },
+      decimal 0 ++ 46 ∷ (decimal 0 ++ 46 ∷ (decimal 0 ++ 46 ∷ decimal 0)),
+      0,
+      record {
+        first = 0;
+        second = 0;
+        third = 0;
+        fourth = 0;
+        first_small = Prim.omega arith;
+        second_small = Prim.omega arith;
+        third_small = Prim.omega arith;
+        fourth_small = Prim.omega arith;
+        text_is = refl;
+        value = refl;
+      },
     ) };
 }

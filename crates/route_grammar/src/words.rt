@@ -33,10 +33,7 @@ pub trait Spelling {
 
 /// The value that the front word spells, which is then passed. Where the front token is no word or spells nothing, it
 /// is a fault, and stands at the front still.
-pub fn read_word<W: Words, S: Spelling>(
-    words: &mut W,
-    spelling: &S,
-) -> Result<S::Value, ReadFault>
+pub fn read_word<W: Words, S: Spelling>(words: &mut W, spelling: &S) -> Result<S::Value, ReadFault>
     ensures answers { Answers (OneWord (S.spells spelling.now)) nothing_further in_force
         (W.left words.old) (W.left words.new) (W.end words.new) result }
     ensures end { W.end words.new ≡ W.end words.old }
