@@ -124,4 +124,4 @@ neighbor_put s value later neighbor is draft new section room routes put =
     let Routes : Sections → Type 0 = λ v. routes_in v.neighbors + length neighbor.statics ≤ 4194304 in
     let Draft : List Neighbor → Type 0 = λ l. IsDraft (sections s.processes l) in
     subst Draft (sym put) (neighbor_added s neighbor draft (subst New (sym is) new) section (subst Room (sym is) room)
-        (subst Routes (sym is) routes))
+    (subst Routes (sym is) routes))

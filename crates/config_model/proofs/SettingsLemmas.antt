@@ -37,9 +37,9 @@ regrouped peer local port own_as peer_as id hold a b c d e f g h = simp and_asso
 pub settings_tested : (a b : Settings) → settings_test.eq a b ≡ same_settings a b
 settings_tested a b =
     let same : settings_test.eq a b ≡ joined same_addr a b =
-        ap (λ (same : Addr → Addr → Bool). joined same a b) addr_tests in
+    ap (λ (same : Addr → Addr → Bool). joined same a b) addr_tests in
     same ∙ regrouped (same_addr a.peer b.peer) (same_addr a.local b.local) (a.port == b.port)
-        (a.local_as == b.local_as) (a.peer_as == b.peer_as) (a.router_id == b.router_id) (a.hold == b.hold)
-        (beq a.ipv4 b.ipv4) (beq a.ipv6 b.ipv6) (beq a.ipv4_send b.ipv4_send) (beq a.ipv6_send b.ipv6_send)
-        (beq a.ipv4_receive b.ipv4_receive) (beq a.ipv6_receive b.ipv6_receive) (beq a.refresh b.refresh)
-        (beq a.extended b.extended)
+    (a.local_as == b.local_as) (a.peer_as == b.peer_as) (a.router_id == b.router_id) (a.hold == b.hold)
+    (beq a.ipv4 b.ipv4) (beq a.ipv6 b.ipv6) (beq a.ipv4_send b.ipv4_send) (beq a.ipv6_send b.ipv6_send)
+    (beq a.ipv4_receive b.ipv4_receive) (beq a.ipv6_receive b.ipv6_receive) (beq a.refresh b.refresh)
+    (beq a.extended b.extended)

@@ -205,7 +205,5 @@ fn first_unknown<'a>(processes: &[Process], neighbors: &'a [Neighbor]) -> Option
 fn unknown_in<'a>(processes: &[Process], names: &'a [Name]) -> Option<&'a Name>
     ensures { option_copied result ≡ unknown_in processes.now names.now }
 {
-    names
-        .iter()
-        .find(|name| place_of_process(processes, name.as_slice()).is_none())
+    names.iter().find(|name| place_of_process(processes, name.as_slice()).is_none())
 }
