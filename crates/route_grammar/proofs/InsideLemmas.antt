@@ -76,7 +76,8 @@ inside_read opening closing R Fit starts limits tokens (last ∷ others) values 
   subst (λ (before : List Token). IsRead (Bracketed opening closing R Fit) nothing_further limits before
       (front_token others) values)
       (closed_tokens inside.sign inside.inner last opening closing inside.sign_is (front_is last.token closing at))
-      (bracketed_read opening closing R Fit starts limits (tokens_of inside.inner) (front_token others) values begin ends
+      (bracketed_read opening closing R Fit starts limits (tokens_of inside.inner) (front_token others)
+      values begin ends
       (subst (λ token. AreSoFar R starts limits (tokens_of inside.inner) token values) at inside.so_far) fit),
 )
 
@@ -151,11 +152,14 @@ inside_faults opening closing R Fit starts limits tokens mid left text over valu
       subst (λ (before : List Token). IsFault (Bracketed opening closing R Fit) nothing_further limits before
           (front_token left) over)
           (open_tokens inside.sign inside.inner text opening inside.sign_is)
-          (bracketed_fault opening closing R Fit starts limits (tokens_of inside.inner) (tokens_of text) (front_token left)
+          (bracketed_fault opening closing R Fit starts limits (tokens_of inside.inner) (tokens_of text)
+          (front_token left)
           (front_token mid) over values ends inside.so_far (lead_of mid left text mid_is) still
-          (completes_begins opening closing R Fit limits (tokens_of inside.inner) (tokens_of text) values inside.so_far.found
+          (completes_begins opening closing R Fit limits (tokens_of inside.inner) (tokens_of text) values
+          inside.so_far.found
           completes)
-          (over_inside opening closing R Fit limits (tokens_of inside.inner) (tokens_of text) (front_token left) over values
+          (over_inside opening closing R Fit limits (tokens_of inside.inner) (tokens_of text) (front_token
+          left) over values
           grows
           inside.so_far.found over_is)
           none),
