@@ -1,0 +1,4 @@
+pub mod DraftLemmas
+pub mod WalkLemmas
+pub mod SettingsLemmas
+pub mod NumberedLemmas
