@@ -103,7 +103,7 @@ module _ (caps : Caps) (start : List Step) (messages : List (List ℕ)) (now : L
       ≡ (if is_named (keys ++ mentions caps messages) key then view caps start key else peer caps start key)
   table_at key =
       let goal_at : Bool → Type 0 = λ b. (if b then value_given h else net now key)
-          ≡ (if b || is_named (mentions caps messages) key then view caps start key else peer caps start key) in
+      ≡ (if b || is_named (mentions caps messages) key then view caps start key else peer caps start key) in
       let cases : goal_at (is_named keys key) = elim (is_named keys key) as (λ b. is_named keys key ≡ b → goal_at b) [
         | true ↦ λ e. sym (each_named (λ k. view caps start k ≡ value_given h) keys are.each key e)
         | false ↦ λ e. sofar.table key
@@ -113,7 +113,7 @@ module _ (caps : Caps) (start : List Step) (messages : List (List ℕ)) (now : L
   owed_at : (key : Key) → is_named (keys ++ mentions caps messages) key ≡ true → is_owed caps start key ≡ true
   owed_at key n =
       elim (is_named keys key) as (λ b. is_named keys key ≡ b → (b || is_named (mentions caps messages) key) ≡ true
-          → is_owed caps start key ≡ true) [
+      → is_owed caps start key ≡ true) [
         | true ↦ λ e _. (and_parts _ _ (left_at key e)).0
         | false ↦ λ e m. sofar.owed key m
       ] refl (sym (is_named-append keys (mentions caps messages) key) ∙ n)
@@ -124,17 +124,17 @@ module _ (caps : Caps) (start : List Step) (messages : List (List ℕ)) (now : L
       let new = some_once keys _ are.left key in
       let old = sofar.once key in
       let goal_at : Bool → Type 0 = λ b. (if b then 1 else 0) + times_named (mentions caps messages) key
-          ≡ (if b || is_named (mentions caps messages) key then 1 else 0) in
+      ≡ (if b || is_named (mentions caps messages) key then 1 else 0) in
       let cases : goal_at (is_named keys key) = elim (is_named keys key) as (λ b. is_named keys key ≡ b → goal_at b) [
         | true ↦ λ e.
             let fresh : is_named (mentions caps messages) key ≡ false =
-                not-true _ (and_parts _ _ (left_at key e)).1 in
+            not-true _ (and_parts _ _ (left_at key e)).1 in
             let none : times_named (mentions caps messages) key ≡ 0 =
-                subst (λ b. times_named (mentions caps messages) key ≡ (if b then 1 else 0)) fresh old in
+            subst (λ b. times_named (mentions caps messages) key ≡ (if b then 1 else 0)) fresh old in
             omega arith
         | false ↦ λ e.
             let zero_first : 0 + times_named (mentions caps messages) key ≡ times_named (mentions caps messages) key =
-                omega arith in
+            omega arith in
             zero_first ∙ old
       ] refl in
       times_named-append keys (mentions caps messages) key
@@ -144,7 +144,7 @@ module _ (caps : Caps) (start : List Step) (messages : List (List ℕ)) (now : L
       → is_marker_owed caps start family ≡ true
   marker_owed_at family n =
       elim (marks family bytes) as (λ b. marks family bytes ≡ b → (b || is_marked family messages) ≡ true
-          → is_marker_owed caps start family ≡ true) [
+      → is_marker_owed caps start family ≡ true) [
         | true ↦ λ e _. (and_parts _ _ (are.marker family e)).0
         | false ↦ λ e m. sofar.marker_owed family m
       ] refl n
@@ -153,12 +153,12 @@ module _ (caps : Caps) (start : List Step) (messages : List (List ℕ)) (now : L
       ≡ (if is_marked family (bytes ∷ messages) then 1 else 0)
   marked_once_at family =
       elim (marks family bytes) as (λ b. marks family bytes ≡ b
-          → (if b then 1 else 0) + times_marked family messages
-          ≡ (if b || is_marked family messages then 1 else 0)) [
+      → (if b then 1 else 0) + times_marked family messages
+      ≡ (if b || is_marked family messages then 1 else 0)) [
         | true ↦ λ e.
             let fresh : is_marked family messages ≡ false = not-true _ (and_parts _ _ (are.marker family e)).1 in
             let none : times_marked family messages ≡ 0 =
-                subst (λ b. times_marked family messages ≡ (if b then 1 else 0)) fresh (sofar.marked_once family) in
+            subst (λ b. times_marked family messages ≡ (if b then 1 else 0)) fresh (sofar.marked_once family) in
             omega arith
         | false ↦ λ e.
             let zero_first : 0 + times_marked family messages ≡ times_marked family messages = omega arith in
@@ -174,8 +174,8 @@ module _ (caps : Caps) (start : List Step) (messages : List (List ℕ)) (now : L
   one_more : said caps bytes ≡ meant h keys → SoFar caps start (bytes ∷ messages) (now ++ said caps bytes)
   one_more says =
       let named : mentions caps (bytes ∷ messages) ≡ keys ++ mentions caps messages =
-          ap (λ effects. map named_by effects ++ mentions caps messages) says
-          ∙ ap (λ ks. ks ++ mentions caps messages) same in
+      ap (λ effects. map named_by effects ++ mentions caps messages) says
+      ∙ ap (λ ks. ks ++ mentions caps messages) same in
       record {
         table = λ key. ap (λ effects. net (now ++ effects) key) says ∙ rw named (table_at key);
         owed = λ key. rw named (owed_at key);
@@ -221,7 +221,7 @@ pub after_message : Grammar → (caps : Caps) (steps : List Step) (bytes : List 
 after_message grammar caps steps bytes last may sofar =
     let for_head = due_for caps steps may.head may.keys may.due in
     let marked : (f : Family) → marks f bytes ≡ head_marks may.head f =
-        λ f. ap (marks f) may.text ∙ written_marks grammar caps may.head may.keys for_head f in
+    λ f. ap (marks f) may.text ∙ written_marks grammar caps may.head may.keys for_head f in
     one_more caps (first_cut steps) (batch steps) (session_effects caps steps) bytes may.head may.keys sofar
     (are_said caps steps bytes may.head may.keys marked may.due) (names_keys may.head may.keys for_head)
     (said_is grammar caps bytes (meant may.head may.keys) may.spelled)
@@ -262,26 +262,26 @@ whole_batches grammar later steps caps bytes h at =
     let messages = bytes ∷ batch steps in
     let whole : NothingLeft caps (Cut (Message bytes false) ∷ steps) = may.ends.0 refl in
     let same : (key : Key) → is_named (mentions caps messages) key ≡ is_owed caps start key =
-        λ key. owed_is_named (is_owed caps start key) (is_named (mentions caps messages) key) (more.owed key)
-        (whole.keys key) in
+    λ key. owed_is_named (is_owed caps start key) (is_named (mentions caps messages) key) (more.owed key)
+    (whole.keys key) in
     let same_marks : (f : Family) → is_marked f messages ≡ is_marker_owed caps start f =
-        λ f. owed_is_named (is_marker_owed caps start f) (is_marked f messages) (more.marker_owed f)
-        (whole.markers f) in
+    λ f. owed_is_named (is_marker_owed caps start f) (is_marked f messages) (more.marker_owed f)
+    (whole.markers f) in
     record {
       table = λ key. more.table key ∙ elim (is_named (mentions caps messages) key) as (λ b.
           is_named (mentions caps messages) key ≡ b
           → (if b then view caps start key else peer caps start key) ≡ view caps start key) [
-        | true ↦ λ e. refl
-        | false ↦ λ e. differ_not _ _ (not_owed _ _ (sym (same key) ∙ e))
-      ] refl;
+            | true ↦ λ e. refl
+            | false ↦ λ e. differ_not _ _ (not_owed _ _ (sym (same key) ∙ e))
+          ] refl;
       named = λ key. more.once key ∙ ap (λ b. if b then 1 else 0) (same key);
       marked = λ f. more.marked_once f ∙ ap (λ b. if b then 1 else 0) (same_marks f);
       few =
-        let four = at_most_one (is_marked Ipv4 messages) in
-        let six = at_most_one (is_marked Ipv6 messages) in
-        let a = more.marked_once Ipv4 in
-        let b = more.marked_once Ipv6 in
-        let c = more.few in omega arith;
+          let four = at_most_one (is_marked Ipv4 messages) in
+          let six = at_most_one (is_marked Ipv6 messages) in
+          let a = more.marked_once Ipv4 in
+          let b = more.marked_once Ipv6 in
+          let c = more.few in omega arith;
     }
 
 pub settled : Grammar → Settled
@@ -289,8 +289,8 @@ settled grammar steps caps legal at key free =
     let sofar = so_far grammar steps legal caps at in
     let start = first_cut steps in
     sofar.table key ∙ elim (is_named (mentions caps (batch steps)) key) as (λ b.
-        is_named (mentions caps (batch steps)) key ≡ b
-        → (if b then view caps start key else peer caps start key) ≡ view caps start key) [
+    is_named (mentions caps (batch steps)) key ≡ b
+    → (if b then view caps start key else peer caps start key) ≡ view caps start key) [
       | true ↦ λ e. refl
       | false ↦ λ e. differ_not _ _
           (not_owed _ _ (sym (owed_is_named (is_owed caps start key) (is_named (mentions caps (batch steps)) key)

@@ -39,7 +39,7 @@ some_once [] test h key = refl
 some_once (k ∷ ks) test h key =
     let rest = some_once ks _ h.1 key in
     elim (same_key k key) as (λ b. same_key k key ≡ b
-        → (if b then 1 else 0) + times_named ks key ≡ (if b || is_named ks key then 1 else 0)) [
+    → (if b then 1 else 0) + times_named ks key ≡ (if b || is_named ks key then 1 else 0)) [
       | true ↦ λ e. elim (is_named ks key) as (λ n. is_named ks key ≡ n → 1 + times_named ks key ≡ 1) [
         | true ↦ λ n. absurd (both_ways (not (same_key k key)) (ap not e)
             (and_parts _ _ (some_named ks _ h.1 key n)).1)

@@ -6,3 +6,4 @@ pub mod BatchLemmas
 pub mod VisibleLemmas
 pub mod PackedLemmas
 pub mod NodeLemmas
+pub mod OrderedLemmas

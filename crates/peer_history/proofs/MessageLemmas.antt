@@ -40,16 +40,16 @@ module _ (make : Key → Effect) (value : Option WireAttrs)
       ap (λ word. later_of word (effect_says (make k) key)) (word_of_all ks key)
       ∙ ap (later_of (if is_named ks key then Some value else None)) (says k key)
       ∙ elim (is_named ks key) as (λ n. later_of (if n then Some value else None)
-          (if same_key k key then Some value else None) ≡ (if same_key k key || n then Some value else None)) [
+      (if same_key k key then Some value else None) ≡ (if same_key k key || n then Some value else None)) [
         | true ↦ elim (same_key k key) as (λ b. Some value ≡ (if b || true then Some value else None)) [
           | true ↦ refl
           | false ↦ refl
         ]
         | false ↦ elim (same_key k key) as (λ b. (if b then Some value else None)
             ≡ (if b || false then Some value else None)) [
-          | true ↦ refl
-          | false ↦ refl
-        ]
+              | true ↦ refl
+              | false ↦ refl
+            ]
       ]
 
   net_of_all : (effects : List Effect) (keys : List Key) (key : Key)
@@ -58,7 +58,7 @@ module _ (make : Key → Effect) (value : Option WireAttrs)
       ap (λ word. unwrap_or word None) (last_word-append effect_says effects (map make keys) key
       ∙ ap (λ word. later_of word (last_word effect_says effects key)) (word_of_all keys key))
       ∙ elim (is_named keys key) as (λ n. unwrap_or (later_of (if n then Some value else None)
-          (last_word effect_says effects key)) None ≡ (if n then value else net effects key)) [
+      (last_word effect_says effects key)) None ≡ (if n then value else net effects key)) [
         | true ↦ refl
         | false ↦ refl
       ]

@@ -21,7 +21,7 @@ use Rattle.peer_history.proofs.MessageLemmas.{Grammar}
 use Rattle.peer_history.proofs.SessionLemmas.{live_stands}
 use Rattle.peer_history.proofs.VisibleLemmas.{peer_after}
 
-either : (a b : Bool) → (a ≡ true) ⊎ (b ≡ true) → (a || b) ≡ true
+pub either : (a b : Bool) → (a ≡ true) ⊎ (b ≡ true) → (a || b) ≡ true
 either true b h = refl
 either false b (inl e) = cc
 either false b (inr e) = e
@@ -36,10 +36,10 @@ sent_wanted settings (Some route) h = refl
 sent_wanted None None h = h
 sent_wanted (Some own) None h = h
 
-shown_wanted : (caps : Caps) (steps : List Step) (key : Key) → IsSome (view caps steps key) → IsSome (want steps key)
+pub shown_wanted : (caps : Caps) (steps : List Step) (key : Key) → IsSome (view caps steps key) → IsSome (want steps key)
 shown_wanted caps steps key h =
     elim (is_visible caps key) as (λ b. is_some (if b then route_sent (settings_in steps) (want steps key) else None)
-        ≡ true → IsSome (want steps key)) [
+    ≡ true → IsSome (want steps key)) [
       | true ↦ λ e. sent_wanted (settings_in steps) (want steps key) e
       | false ↦ λ e. cc
     ] h
@@ -55,7 +55,7 @@ target_node : (caps : Caps) (steps : List Step) (key : Key) → live steps ≡ S
     → IsSome (view caps (first_cut steps) key) → is_node steps key ≡ true
 target_node caps steps key at h =
     elim (opened steps) as (λ q. opened steps ≡ q → IsSome (view caps (unwrap_or q steps) key)
-        → is_node steps key ≡ true) [
+    → is_node steps key ≡ true) [
       | None ↦ λ e shown. either _ _ (inl (shown_wanted caps steps key shown))
       | Some start ↦ λ e shown. held_node caps steps key at
           (inr (subst (λ q. is_targeted caps q key ≡ true) (sym e) shown))
@@ -72,13 +72,13 @@ message_adds grammar bytes last steps legal key h =
     let caps = legal.0.0 in
     let at = legal.0.1 in
     let held : is_held (live steps) (Cut (Message bytes last) ∷ steps) key ≡ true → is_node steps key ≡ true =
-        λ e. elim (or_cases _ _ (subst (λ l. is_held l (Cut (Message bytes last) ∷ steps) key ≡ true) at e)) [
-          | inl had ↦ elim (peer_after grammar caps steps bytes last legal (live_stands steps caps at) key had) [
-            | inl shown ↦ target_node caps steps key at shown
-            | inr has ↦ held_node caps steps key at (inl has)
-          ]
-          | inr shown ↦ target_node caps steps key at (targeted caps steps last key shown)
-        ] in
+    λ e. elim (or_cases _ _ (subst (λ l. is_held l (Cut (Message bytes last) ∷ steps) key ≡ true) at e)) [
+      | inl had ↦ elim (peer_after grammar caps steps bytes last legal (live_stands steps caps at) key had) [
+        | inl shown ↦ target_node caps steps key at shown
+        | inr has ↦ held_node caps steps key at (inl has)
+      ]
+      | inr shown ↦ target_node caps steps key at (targeted caps steps last key shown)
+    ] in
     elim (or_cases _ _ h) [
       | inl wanted ↦ either _ _ (inl wanted)
       | inr e ↦ held e
@@ -116,7 +116,7 @@ ended_adds : (code : Code) → AddsNoNode (Ended code)
 ended_adds code steps legal key h =
     let gone = ended_live steps code (reset steps) in
     let wanted : (is_some (want steps key) || false) ≡ true =
-        subst (λ l. (is_some (want steps key) || is_held l (Ended code ∷ steps) key) ≡ true) gone h in
+    subst (λ l. (is_some (want steps key) || is_held l (Ended code ∷ steps) key) ≡ true) gone h in
     either _ _ (inl (alone _ wanted))
 
 refreshed_adds : (family : Family) → AddsNoNode (Refreshed family)

@@ -14,7 +14,7 @@ use Rattle.peer_history.specs.Steps.Answer.{Message}
 pub live_stands : (steps : List Step) (caps : Caps) → live steps ≡ Some caps → session steps ≡ Some caps
 live_stands steps caps h =
     elim (is_some (reset steps)) as (λ b. (if b then None else session steps) ≡ Some caps
-        → session steps ≡ Some caps) [
+    → session steps ≡ Some caps) [
       | true ↦ λ e. cc
       | false ↦ λ e. e
     ] h

@@ -46,14 +46,14 @@ peer_after grammar caps steps bytes last legal at key h =
     let may = at_session caps steps bytes last at legal in
     let for_head = due_for caps steps may.head may.keys may.due in
     let are = are_said caps steps bytes may.head may.keys
-        (λ f. ap (marks f) may.text ∙ written_marks grammar caps may.head may.keys for_head f) may.due in
+    (λ f. ap (marks f) may.text ∙ written_marks grammar caps may.head may.keys for_head f) may.due in
     let now : peer caps (Cut (Message bytes last) ∷ steps) key
-        ≡ (if is_named may.keys key then value_given may.head else peer caps steps key) =
-        ap (λ effects. net (session_effects caps steps ++ effects) key) (said_is grammar caps bytes _ may.spelled)
-        ∙ net_meant (session_effects caps steps) may.head may.keys key (names_keys may.head may.keys for_head) in
+    ≡ (if is_named may.keys key then value_given may.head else peer caps steps key) =
+    ap (λ effects. net (session_effects caps steps ++ effects) key) (said_is grammar caps bytes _ may.spelled)
+    ∙ net_meant (session_effects caps steps) may.head may.keys key (names_keys may.head may.keys for_head) in
     elim (is_named may.keys key) as (λ b. is_named may.keys key ≡ b
-        → is_some (if b then value_given may.head else peer caps steps key) ≡ true
-        → IsSome (view caps (first_cut steps) key) ⊎ IsSome (peer caps steps key)) [
+    → is_some (if b then value_given may.head else peer caps steps key) ≡ true
+    → IsSome (view caps (first_cut steps) key) ⊎ IsSome (peer caps steps key)) [
       | true ↦ λ e q. inl (ap is_some (each_named (λ k. view caps (first_cut steps) k ≡ value_given may.head) may.keys
           are.each key e) ∙ q)
       | false ↦ λ e q. inr q
@@ -63,7 +63,7 @@ view_visible : (caps : Caps) (steps : List Step) (key : Key) → IsSome (view ca
     → is_visible caps key ≡ true
 view_visible caps steps key h =
     elim (is_visible caps key) as (λ b. is_some (if b then route_sent (settings_in steps) (want steps key) else None)
-        ≡ true → b ≡ true) [
+    ≡ true → b ≡ true) [
       | true ↦ λ e. refl
       | false ↦ λ e. e
     ] h
@@ -88,14 +88,14 @@ owed_visible : (caps : Caps) (steps : List Step) (key : Key)
 owed_visible caps steps key held h =
     let route = route_sent (settings_in steps) (want steps key) in
     elim (is_visible caps key) as (λ v. is_visible caps key ≡ v
-        → (differ (peer caps steps key) (if v then route else None)
-        || (is_some (if v then route else None) && is_refreshed steps (family_of_key key))) ≡ true → v ≡ true) [
+    → (differ (peer caps steps key) (if v then route else None)
+    || (is_some (if v then route else None) && is_refreshed steps (family_of_key key))) ≡ true → v ≡ true) [
       | true ↦ λ e q. refl
       | false ↦ λ e q. elim (peer caps steps key) as (λ o. peer caps steps key ≡ o
           → (differ o None || false) ≡ true → false ≡ true) [
-        | None ↦ λ p r. r
-        | Some w ↦ λ p r. sym e ∙ held (ap is_some p)
-      ] refl q
+            | None ↦ λ p r. r
+            | Some w ↦ λ p r. sym e ∙ held (ap is_some p)
+          ] refl q
     ] refl h
 
 at_opened : (steps start : List Step) (caps : Caps) → IsLegal steps → session steps ≡ Some caps
@@ -106,7 +106,7 @@ at_opened (Down ∷ steps) start caps legal at o = cc
 at_opened (Cut (Message bytes true) ∷ steps) start caps legal at o = cc
 at_opened (Cut (Message bytes false) ∷ steps) start caps legal at o =
     elim (opened steps) as (λ q. opened steps ≡ q → unwrap_or q steps ≡ start
-        → IsLegal start × (session start ≡ Some caps)) [
+    → IsLegal start × (session start ≡ Some caps)) [
       | None ↦ λ e f. subst (λ t. IsLegal t × (session t ≡ Some caps)) f (legal.1, at)
       | Some earlier ↦ λ e f. at_opened steps start caps legal.1 at (e ∙ ap Some f)
     ] refl (same_Some _ _ o)
@@ -116,7 +116,7 @@ at_first : (steps : List Step) (caps : Caps) → IsLegal steps → session steps
     → IsLegal (first_cut steps) × (session (first_cut steps) ≡ Some caps)
 at_first steps caps legal at =
     elim (opened steps) as (λ q. opened steps ≡ q
-        → IsLegal (unwrap_or q steps) × (session (unwrap_or q steps) ≡ Some caps)) [
+    → IsLegal (unwrap_or q steps) × (session (unwrap_or q steps) ≡ Some caps)) [
       | None ↦ λ e. (legal, at)
       | Some start ↦ λ e. at_opened steps start caps legal at e
     ] refl

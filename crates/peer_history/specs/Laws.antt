@@ -1,5 +1,6 @@
 -- What a legal history of a slot tells.
 use Rattle.std.specs.Prelude.{ℕ, ◌≡◌, ◌+◌, ◌≤◌, Bool, true, false, List, ◌∷◌, ◌++◌, length, if◌then◌else◌, Some, IsSome}
+use Rattle.std.specs.Prelude.{is_some}
 use Rattle.route_values.specs.declared.addr.Family.{Family}
 use Rattle.route_values.specs.declared.key.Key.{Key}
 use Rattle.route_values.specs.Caps.{Caps}
@@ -10,11 +11,12 @@ use Rattle.peer_history.specs.Cuts.{IsLegal}
 use Rattle.peer_history.specs.Keys.{times_named}
 use Rattle.peer_history.specs.Messages.{said_each, mentions, times_marked}
 use Rattle.peer_history.specs.Nodes.{is_node}
+use Rattle.peer_history.specs.Ordered.{AreThose, node_keys, wanted_keys}
 use Rattle.peer_history.specs.Sessions.{session, peer}
 use Rattle.peer_history.specs.Steps.{Step, Answer, Code}
 use Rattle.peer_history.specs.Steps.Step.{Up, Down, Ended, Refreshed, Cut}
 use Rattle.peer_history.specs.Steps.Answer.{Message, Nothing}
-use Rattle.peer_history.specs.Table.{view}
+use Rattle.peer_history.specs.Table.{want, view}
 
 -- A batch became whole with this message, which was cut after these steps. The peer has the table of the batch's first
 -- cut. Each key and marker that was owed there was named once, and no other. There were no more messages than keys and
@@ -71,3 +73,11 @@ pub record SessionsAddNoNode : Type 0 where
   pub ended : (code : Code) → AddsNoNode (Ended code)
   pub refreshed : (family : Family) → AddsNoNode (Refreshed family)
   pub cut : (answer : Answer) → AddsNoNode (Cut answer)
+
+-- the keys of the table are those that are wanted
+abbrev pub WantedAreListed : Type 0
+WantedAreListed = (steps : List Step) → AreThose (λ key. is_some (want steps key)) (wanted_keys steps)
+
+-- the route nodes are listed
+abbrev pub NodesAreListed : Type 0
+NodesAreListed = (steps : List Step) → IsLegal steps → AreThose (is_node steps) (node_keys steps)

@@ -7,4 +7,5 @@ pub mod Sessions
 pub mod Batches
 pub mod Cuts
 pub mod Nodes
+pub mod Ordered
 pub mod Laws

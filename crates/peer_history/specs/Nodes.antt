@@ -1,9 +1,8 @@
 -- The route nodes of a neighbour: the keys that a table has to keep something for.
-use Rattle.std.specs.Prelude.{ℕ, ◌≡◌, ◌||◌, Bool, false, List, ◌∷◌, if◌then◌else◌, Option, Some, None, is_some}
+use Rattle.std.specs.Prelude.{◌||◌, Bool, false, List, Option, Some, None, is_some}
 use Rattle.route_values.specs.declared.key.Key.{Key}
 use Rattle.route_values.specs.Caps.{Caps}
 use Rattle.peer_history.specs.Batches.{opened}
-use Rattle.peer_history.specs.Keys.{times_named}
 use Rattle.peer_history.specs.Sessions.{live, peer}
 use Rattle.peer_history.specs.Steps.{Step}
 use Rattle.peer_history.specs.Table.{want, view}
@@ -21,7 +20,3 @@ is_held (Some caps) steps key = is_some (peer caps steps key) || is_targeted cap
 -- whether the key is a node: it is in the table, or the live session needs it
 abbrev pub is_node : List Step → Key → Bool
 is_node steps key = is_some (want steps key) || is_held (live steps) steps key
-
--- these are the nodes, each once
-abbrev pub AreNodes : List Step → List Key → Type 0
-AreNodes steps keys = (key : Key) → times_named keys key ≡ (if is_node steps key then 1 else 0)

@@ -1,6 +1,7 @@
 //! The laws of batches.
 ghost use Rattle.peer_history.specs.Laws.{BatchesArePacked, HeldAreVisible, LeftAreVisible};
-ghost use Rattle.peer_history.specs.Laws.{NothingPending, SessionsAddNoNode, Settled, WholeBatches};
+ghost use Rattle.peer_history.specs.Laws.{NodesAreListed, NothingPending, SessionsAddNoNode};
+ghost use Rattle.peer_history.specs.Laws.{Settled, WantedAreListed, WholeBatches};
 
 use update_grammar::{reading_is_spelling, written_is_spelled};
 
@@ -48,6 +49,15 @@ pub fn batches_are_packed()
 /// Sessions and their messages add no node, so the room that a table was given for its keys lasts.
 pub fn nodes_stay()
     ensures { SessionsAddNoNode }
+{
+    reading_is_spelling();
+    written_is_spelled();
+}
+
+/// The lists of a table's keys and of its nodes have just those keys, each once.
+pub fn nodes_are_listed()
+    ensures wanted { WantedAreListed }
+    ensures nodes { NodesAreListed }
 {
     reading_is_spelling();
     written_is_spelled();

@@ -8,4 +8,7 @@
 
 mod laws;
 
-pub use laws::{batches_are_packed, nodes_stay, nothing_pending, settled, visible, whole_batches};
+pub use laws::{
+    batches_are_packed, nodes_are_listed, nodes_stay, nothing_pending, settled, visible,
+    whole_batches,
+};
