@@ -1,0 +1,4 @@
+pub mod StepLemmas
+pub mod HeadlineLemmas
+pub mod StartLemmas
+pub mod QueueLemmas
