@@ -1,5 +1,5 @@
 //! The laws of legal histories.
-ghost use Rattle.book_history.specs.Headline.{NothingPending, WholeBatches};
+ghost use Rattle.book_history.specs.Headline.{NothingPending, SessionsAddNoNode, WholeBatches};
 ghost use Rattle.book_history.specs.HelperLaws.{IncarnationsCount, QueuesAreBounded, StartsAreFew};
 
 /// The headline: over every legal history, of whatever events, each whole batch that was cut for a neighbour leaves at
@@ -26,3 +26,11 @@ pub fn helpers_are_bounded()
     ensures incarnations { IncarnationsCount }
     ensures starts { StartsAreFew }
 {}
+
+/// Sessions that come up or go down, families that are sent again, and messages add no route node. So a bound that a
+/// line or a reload kept is kept until the next one.
+pub fn nodes_stay()
+    ensures { SessionsAddNoNode }
+{
+    peer_history::nodes_stay();
+}

@@ -10,4 +10,4 @@ mod answers;
 mod laws;
 
 pub use answers::{Control, Cut, NotRead, Peer, Reload, Spawn, Take, Up, Verdict, Why};
-pub use laws::{helpers_are_bounded, nothing_pending, whole_batches};
+pub use laws::{helpers_are_bounded, nodes_stay, nothing_pending, whole_batches};
