@@ -1,6 +1,6 @@
 -- A draft with a further section is a draft.
 use Rattle.std.proofs.Common.{ℕ, ◌≡◌, ◌+◌, ◌<◌, ◌≤◌, Bool, true, false, cond, List, [], ◌∷◌, ◌++◌, map, length}
-use Rattle.std.proofs.Common.{Option, Some, None, refl, sym, ◌∙◌, arith, length-append}
+use Rattle.std.proofs.Common.{Some, None, refl, sym, subst, ◌∙◌, arith, length-append}
 use Rattle.std.specs.Prelude.{position}
 use Rattle.std.specs.List.{AllByRecursion, IsDistinct, position_from}
 use Rattle.std.proofs.lemmas.Iterator.Adapters.{position_from-zero}
@@ -58,9 +58,10 @@ distinct_end same key (y ∷ ys) x distinct new =
 -- ---- drafts
 
 -- no sections are a draft
-pub empty_is_draft : IsDraft (sections [] [])
+pub empty_is_draft : (processes : List Process) (neighbors : List Neighbor) → processes ≡ [] → neighbors ≡ []
+    → IsDraft (sections processes neighbors)
 unfolding IsDistinct
-empty_is_draft = record {
+empty_is_draft [] [] no_process no_neighbor = record {
   names = tt;
   peers = tt;
   each = tt;
@@ -68,8 +69,10 @@ empty_is_draft = record {
   few_neighbors = omega arith;
   few_routes = omega arith;
 }
+empty_is_draft [] (neighbor ∷ neighbors) no_process no_neighbor = absurd (cc)
+empty_is_draft (process ∷ processes) neighbors no_process no_neighbor = absurd (cc)
 
-pub process_added : (s : Sections) (process : Process) → IsDraft s
+process_added : (s : Sections) (process : Process) → IsDraft s
     → place_of_name s.processes process.name.items ≡ None → length s.processes < 16
     → IsDraft (with_process s process)
 process_added s process draft new room =
@@ -84,7 +87,7 @@ process_added s process draft new room =
       few_routes = draft.few_routes;
     }
 
-pub neighbor_added : (s : Sections) (neighbor : Neighbor) → IsDraft s
+neighbor_added : (s : Sections) (neighbor : Neighbor) → IsDraft s
     → place_of_peer s.neighbors neighbor.settings.peer ≡ None → IsNeighbor neighbor → length s.neighbors < 64
     → routes_in s.neighbors + length neighbor.statics ≤ 4194304
     → IsDraft (with_neighbor s neighbor)
@@ -99,3 +102,26 @@ neighbor_added s neighbor draft new section room routes =
       few_neighbors = omega (arith, length-append s.neighbors (neighbor ∷ []));
       few_routes = omega (arith, sum_by-append count s.neighbors (neighbor ∷ []), routes);
     }
+
+-- ---- the same, of sections that are seen as a value
+
+pub process_put : (s value : Sections) (later : List Process) (process : Process) → s ≡ value → IsDraft s
+    → place_of_name value.processes process.name.items ≡ None → length value.processes < 16
+    → later ≡ s.processes ++ process ∷ [] → IsDraft (sections later s.neighbors)
+process_put s value later process is draft new room put =
+    let New : Sections → Type 0 = λ v. place_of_name v.processes process.name.items ≡ None in
+    let Room : Sections → Type 0 = λ v. length v.processes < 16 in
+    let Draft : List Process → Type 0 = λ l. IsDraft (sections l s.neighbors) in
+    subst Draft (sym put) (process_added s process draft (subst New (sym is) new) (subst Room (sym is) room))
+
+pub neighbor_put : (s value : Sections) (later : List Neighbor) (neighbor : Neighbor) → s ≡ value → IsDraft s
+    → place_of_peer value.neighbors neighbor.settings.peer ≡ None → IsNeighbor neighbor → length value.neighbors < 64
+    → routes_in value.neighbors + length neighbor.statics ≤ 4194304
+    → later ≡ s.neighbors ++ neighbor ∷ [] → IsDraft (sections s.processes later)
+neighbor_put s value later neighbor is draft new section room routes put =
+    let New : Sections → Type 0 = λ v. place_of_peer v.neighbors neighbor.settings.peer ≡ None in
+    let Room : Sections → Type 0 = λ v. length v.neighbors < 64 in
+    let Routes : Sections → Type 0 = λ v. routes_in v.neighbors + length neighbor.statics ≤ 4194304 in
+    let Draft : List Neighbor → Type 0 = λ l. IsDraft (sections s.processes l) in
+    subst Draft (sym put) (neighbor_added s neighbor draft (subst New (sym is) new) section (subst Room (sym is) room)
+    (subst Routes (sym is) routes))

@@ -1,4 +1,4 @@
 pub mod DraftLemmas
-pub mod WalkLemmas
+pub mod FoundLemmas
 pub mod SettingsLemmas
 pub mod NumberedLemmas

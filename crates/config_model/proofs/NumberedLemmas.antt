@@ -3,9 +3,13 @@ use Rattle.std.proofs.Common.{ℕ, ◌≡◌, ◌+◌, ◌<◌, ◌==◌, ◌&&�
 use Rattle.std.proofs.Common.{refl, sym, ap, subst, ◌∙◌, arith, length-append}
 use Rattle.std.proofs.lemmas.Bool.{ne_eqb}
 use Rattle.std.specs.List.{AllByRecursion, IsDistinct}
+use Rattle.route_values.specs.declared.attrs.Attrs.{Attrs}
+use Rattle.route_values.specs.declared.attrs.Hop.TheVariants.{Own}
 use Rattle.route_values.specs.declared.key.Key.{Key}
 use Rattle.route_values.specs.declared.settings.Settings.{Settings}
-use Rattle.route_values.specs.Key.{same_block, same_key}
+use Rattle.route_values.specs.Addr.{family_of}
+use Rattle.route_values.specs.Attrs.{unwritten}
+use Rattle.route_values.specs.Key.{family_of_key, same_block, same_key}
 use Rattle.config_model.specs.declared.sections.StaticRoute.{StaticRoute}
 use Rattle.config_model.specs.Drafts.{IsRoute}
 use Rattle.config_model.proofs.DraftLemmas.{all_end, distinct_end}
@@ -57,4 +61,20 @@ next_numbered settings routes later route count before is id good =
           (omega (arith, id));
       each = all_end (IsRoute settings) routes route before.each good;
       number = length-append routes (route ∷ []) ∙ ap (λ n. n + 1) before.number;
+    })
+
+-- a route with the own address as its next hop and nothing else written
+pub own_route : (settings : Settings) (key : Key) (attrs : Attrs) → attrs ≡ unwritten Own
+    → family_of settings.local ≡ family_of_key key → IsRoute settings (record { key = key; attrs = attrs })
+own_route settings key attrs is family =
+    let P : Attrs → Type 0 = λ a. IsRoute settings (record { key = key; attrs = a }) in
+    subst P (sym is) (record {
+      family = family;
+      limits = record {
+        numbers = omega arith;
+        communities = omega arith;
+        clusters = omega arith;
+        extended = omega arith;
+        large = omega arith;
+      };
     })

@@ -1,12 +1,11 @@
 -- When a draft is a configuration: each process that a neighbour hears has a section.
-use Rattle.std.specs.Prelude.{ℕ, ◌≡◌, Bool, List, Option, None, Result, Ok, Err, is_some, is_none, find}
+use Rattle.std.specs.Prelude.{ℕ, ◌≡◌, List, Option, None, Result, Ok, Err, is_some, is_none, find}
 use Rattle.std.specs.Prelude.{if◌then◌else◌}
 use Rattle.std.specs.List.{flat_map}
 use Rattle.arrayvec.specs.ArrayVec.{ArrayVec}
 use Rattle.config_model.specs.declared.sections.Process.{Process}
 use Rattle.config_model.specs.declared.sections.Neighbor.{Neighbor}
 use Rattle.config_model.specs.declared.fault.ConfigFault.{ConfigFault}
-use Rattle.config_model.specs.declared.fault.ConfigKind.{ConfigKind}
 use Rattle.config_model.specs.declared.fault.ConfigKind.TheVariants as kind
 use Rattle.config_model.specs.Sections.{Sections, place_of_name}
 use Rattle.config_model.specs.Drafts.{IsDraft}

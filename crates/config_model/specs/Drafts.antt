@@ -10,6 +10,7 @@ use Rattle.route_values.specs.Settings.{side_of}
 use Rattle.config_model.specs.declared.sections.Process.{Process}
 use Rattle.config_model.specs.declared.sections.Neighbor.{Neighbor}
 use Rattle.config_model.specs.declared.sections.StaticRoute.{StaticRoute}
+use Rattle.config_model.specs.Limits.{max_helpers, max_peers, max_routes}
 use Rattle.config_model.specs.Sections.{Sections, sections, same_name, routes_in}
 
 -- the next hop that a static route is sent with has its key's family, and no list of its attributes is too long
@@ -28,9 +29,9 @@ pub record IsDraft (s : Sections) : Type 0 where
   pub names : IsDistinct same_name (map (λ process. process.name.items) s.processes)
   pub peers : IsDistinct same_addr (map (λ neighbor. neighbor.settings.peer) s.neighbors)
   pub each : AllByRecursion IsNeighbor s.neighbors
-  pub few_processes : length s.processes ≤ 16
-  pub few_neighbors : length s.neighbors ≤ 64
-  pub few_routes : routes_in s.neighbors ≤ 4194304
+  pub few_processes : length s.processes ≤ max_helpers
+  pub few_neighbors : length s.neighbors ≤ max_peers
+  pub few_routes : routes_in s.neighbors ≤ max_routes
 
 -- the sections with one more process at the end
 abbrev pub with_process : Sections → Process → Sections

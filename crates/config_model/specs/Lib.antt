@@ -1,4 +1,5 @@
 pub mod Kinds
+pub mod Limits
 pub mod Sections
 pub mod Drafts
 pub mod Checked

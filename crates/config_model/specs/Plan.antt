@@ -1,7 +1,7 @@
 -- What a reload does to the neighbours, which are matched by their addresses.
 use Rattle.std.specs.Prelude.{Bool, not, ◌==◌, ◌&&◌, List, map, filter, is_some}
 use Rattle.std.specs.List.{list_any}
-use Rattle.std.proofs.Math.Bool.{beq}
+use Rattle.std.specs.Bool.{beq}
 use Rattle.route_values.specs.declared.addr.Addr.{Addr}
 use Rattle.route_values.specs.declared.settings.Settings.{Settings}
 use Rattle.route_values.specs.Key.{same_addr}

@@ -1,5 +1,5 @@
 -- The sections of a configuration: processes and neighbours in the file's order.
-use Rattle.std.specs.Prelude.{ℕ, Bool, List, ◌∷◌, [], ◌++◌, Option, nat_eq, position, length, sum_by}
+use Rattle.std.specs.Prelude.{ℕ, Bool, List, Option, nat_eq, position, length, sum_by}
 use Rattle.std.specs.Cmp.Lexicographic.{pointwise}
 use Rattle.route_values.specs.declared.addr.Addr.{Addr}
 use Rattle.route_values.specs.Key.{same_addr}

@@ -1,6 +1,7 @@
 //! Configurations, and drafts of them.
 ghost use Rattle.std.specs.Prelude.{◌≡◌, ◌≤◌};
 ghost use Rattle.std.specs.Option.{option_copied};
+ghost use Rattle.config_model.specs.Limits.{max_routes};
 ghost use Rattle.config_model.specs.Sections.{routes_in};
 ghost use Rattle.config_model.specs.Checked.{first_unknown_of, unknown_in, checked};
 
@@ -59,7 +60,8 @@ impl Model for Config {
 }
 
 impl Draft {
-    ghost use Rattle.std.specs.Prelude.{◌<◌, ◌+◌, [], length, OnOk, OnErr, IsNone};
+    ghost use Rattle.std.specs.Prelude.{◌<◌, ◌+◌, [], length, None, OnOk, OnErr};
+    ghost use Rattle.config_model.specs.Limits.{max_helpers, max_peers};
     ghost use Rattle.config_model.specs.Sections.{sections, place_of_name, place_of_peer};
     ghost use Rattle.config_model.specs.Drafts.{IsDraft, IsNeighbor, with_process, with_neighbor};
     ghost use Rattle.config_model.specs.Checked.{first_unknown};
@@ -100,8 +102,8 @@ impl Draft {
     /// Puts a process at the end, whose name is new; there are fewer than 16. Where memory is wanting the draft stays
     /// as it was.
     pub fn add_process(&mut self, process: Process) -> Result<(), NoMemory>
-        requires name { IsNone (place_of_name self.old.processes process.name.items) }
-        requires room { length self.old.processes < 16 }
+        requires name { place_of_name self.old.processes process.name.items ≡ None }
+        requires room { length self.old.processes < max_helpers }
         ensures ok { OnOk result (self.new ≡ with_process self.old process) }
         ensures err { OnErr result (self.new ≡ self.old) }
     {
@@ -112,10 +114,10 @@ impl Draft {
     /// Puts a neighbour at the end, whose address is new; there are fewer than 64. Where memory is wanting the draft
     /// stays as it was.
     pub fn add_neighbor(&mut self, neighbor: Neighbor) -> Result<(), NoMemory>
-        requires peer { IsNone (place_of_peer self.old.neighbors neighbor.settings.peer) }
+        requires peer { place_of_peer self.old.neighbors neighbor.settings.peer ≡ None }
         requires section { IsNeighbor neighbor }
-        requires room { length self.old.neighbors < 64 }
-        requires routes { routes_in self.old.neighbors + length neighbor.statics ≤ 4194304 }
+        requires room { length self.old.neighbors < max_peers }
+        requires routes { routes_in self.old.neighbors + length neighbor.statics ≤ max_routes }
         ensures ok { OnOk result (self.new ≡ with_neighbor self.old neighbor) }
         ensures err { OnErr result (self.new ≡ self.old) }
     {
@@ -176,7 +178,7 @@ pub fn check(draft: Draft) -> Result<Config, ConfigFault>
 
 // How many static routes some neighbours have together.
 fn routes_in(neighbors: &[Neighbor]) -> usize
-    requires { routes_in neighbors.now ≤ 4194304 }
+    requires { routes_in neighbors.now ≤ max_routes }
     ensures { result ≡ routes_in neighbors.now }
 {
     let mut routes = 0;
@@ -203,7 +205,5 @@ fn first_unknown<'a>(processes: &[Process], neighbors: &'a [Neighbor]) -> Option
 fn unknown_in<'a>(processes: &[Process], names: &'a [Name]) -> Option<&'a Name>
     ensures { option_copied result ≡ unknown_in processes.now names.now }
 {
-    names
-        .iter()
-        .find(|name| place_of_process(processes, name.as_slice()).is_none())
+    names.iter().find(|name| place_of_process(processes, name.as_slice()).is_none())
 }

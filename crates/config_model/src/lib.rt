@@ -17,8 +17,10 @@ pub use config::{Config, Draft, MAX_ROUTES, check};
 pub use fault::{ConfigFault, ConfigKind};
 pub use plan::{Addrs, Plan, reload_plan};
 pub use route_values::Settings;
-pub use sections::{MAX_NAME, MAX_RUN, Name, Names, Neighbor, Process, StaticRoute, Statics};
-pub use sections::{place_of_neighbor, place_of_process};
+pub use sections::{
+    MAX_NAME, MAX_RUN, Name, Names, Neighbor, Process, StaticRoute, Statics, place_of_neighbor,
+    place_of_process,
+};
 pub use selecting::selected;
 pub use slots::{MAX_HELPERS, MAX_PEERS, Slots};
 

@@ -1,10 +1,11 @@
 //! What a reload does to the neighbours.
 ghost use Rattle.std.specs.Prelude.{◌≡◌, IfOk};
-ghost use Rattle.config_model.specs.Plan.{has_standing, peers_with, plan_of};
+ghost use Rattle.config_model.specs.Plan.{has_standing, stands, stands_same, same_settings};
+ghost use Rattle.config_model.specs.Plan.{peers_with, plan_of};
 
 use crate::config::Config;
 use crate::sections::{Neighbor, place_of_neighbor};
-use route_values::{Addr, Items, NoMemory};
+use route_values::{Addr, Items, NoMemory, Settings};
 use std::alloc::Global;
 
 /// A list of addresses.
@@ -74,13 +75,32 @@ fn peers_with(
 fn has_standing(standing: Standing, others: &[Neighbor], neighbor: &Neighbor) -> bool
     ensures { result ≡ has_standing standing others.now neighbor.now }
 {
-    let stands = place_of_neighbor(others, neighbor.settings.peer).is_some();
-    let is_same = others
-        .iter()
-        .any(|other| other.settings == neighbor.settings);
     match standing {
-        Standing::Same => is_same,
-        Standing::Changed => stands && !is_same,
-        Standing::Absent => !stands,
+        Standing::Same => stands_same(others, neighbor),
+        Standing::Changed => stands(others, neighbor) && !stands_same(others, neighbor),
+        Standing::Absent => !stands(others, neighbor),
     }
+}
+
+// Whether a neighbour of this address stands among the others.
+fn stands(others: &[Neighbor], neighbor: &Neighbor) -> bool
+    ensures { result ≡ stands others.now neighbor.now }
+{
+    place_of_neighbor(others, neighbor.settings.peer).is_some()
+}
+
+// Whether a neighbour with these settings stands among the others.
+fn stands_same(others: &[Neighbor], neighbor: &Neighbor) -> bool
+    ensures { result ≡ stands_same others.now neighbor.now }
+{
+    others
+        .iter()
+        .any(|other| same_settings(&other.settings, &neighbor.settings))
+}
+
+// Whether two settings are the same.
+fn same_settings(a: &Settings, b: &Settings) -> bool
+    ensures { result ≡ same_settings a.now b.now }
+{
+    *a == *b
 }

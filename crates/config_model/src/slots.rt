@@ -1,5 +1,6 @@
 //! How many sections a configuration may have.
 ghost use Rattle.std.specs.Prelude.{◌≤◌};
+ghost use Rattle.config_model.specs.Limits.{max_helpers, max_peers};
 
 /// The most processes that a configuration has.
 pub const MAX_HELPERS: usize = 16;
@@ -12,6 +13,6 @@ pub const MAX_PEERS: usize = 64;
 pub struct Slots {
     pub helpers: usize,
     pub peers: usize,
-    pub ghost few_helpers: { helpers ≤ 16 },
-    pub ghost few_peers: { peers ≤ 64 },
+    pub ghost few_helpers: { helpers ≤ max_helpers },
+    pub ghost few_peers: { peers ≤ max_peers },
 }

@@ -1,16 +1,18 @@
 //! One configuration with two processes and two neighbours, and reloads of small ones.
-use super::*;
-use arrayvec::ArrayVec;
-use route_values::{Addr, Attrs, Family, Hop, Items, Key, NoMemory, Pick, Prefix, Selector};
-use std::alloc::Global;
-use std::test::Fail;
-
-ghost use Rattle.std.specs.Prelude.{◌≡◌, ◌×◌, IfOk, map};
+ghost use Rattle.std.specs.Prelude.{◌≡◌, IfOk, map};
 ghost use Rattle.std.specs.List.{AllByRecursion, IsDistinct};
 ghost use Rattle.route_values.specs.declared.addr.Family.TheVariants.{Ipv4};
 ghost use Rattle.route_values.specs.Addr.{family_of};
 ghost use Rattle.route_values.specs.Key.{same_key};
 ghost use Rattle.config_model.specs.Drafts.{IsNeighbor, IsRoute};
+
+mod faults;
+
+use super::*;
+use arrayvec::ArrayVec;
+use route_values::{Addr, Attrs, Family, Hop, Items, Key, NoMemory, Pick, Prefix, Selector};
+use std::alloc::Global;
+use std::test::Fail;
 
 // 192.0.2.2 to 192.0.2.5, and the own address 192.0.2.9.
 const FIRST: u32 = 0xC000_0202;
@@ -203,24 +205,36 @@ fn pick(peer: u32, peer_as: Option<u32>) -> Pick {
 }
 
 #[test]
-fn a_configuration_has_the_sections_that_were_added(rt: HostRuntime) -> Result<(), Fail> {
+fn sections_are_found_by_name_and_address(rt: HostRuntime) -> Result<(), Fail> {
     let config = config(rt.alloc())?;
-    assert_eq!(rt; config.processes().len(), 2);
-    assert_eq!(rt; config.neighbors().len(), 2);
-    assert_eq!(rt; place_of_process(config.processes(), CHECKER), Some(1));
-    assert_eq!(rt; place_of_process(config.processes(), b"check"), None);
-    assert_eq!(rt; place_of_neighbor(config.neighbors(), Addr::V4(SECOND)), Some(1));
-    assert_eq!(rt; place_of_neighbor(config.neighbors(), Addr::V4(THIRD)), None);
-    'processes: for section in config.processes() {
-        assert!(rt; section.copy().is_same(section));
-        assert!(rt; !section.is_same(&process(b"other")));
+    let names = [
+        (ANNOUNCER, Some(0)),
+        (CHECKER, Some(1)),
+        (&b"check"[..], None),
+    ];
+    'names: for (name, wanted) in names {
+        assert_eq!(rt;
+            place_of_process(config.processes(), name),
+            wanted,
+            "{name:?}"
+        );
     }
-    'neighbors: for section in config.neighbors() {
-        let copied = found(section.copy(rt.alloc()))?;
-        assert_eq!(rt; copied.settings, section.settings);
-        assert_eq!(rt; copied.processes.len(), section.processes.len());
+    let peers = [(FIRST, Some(0)), (SECOND, Some(1)), (THIRD, None)];
+    'peers: for (peer, wanted) in peers {
+        assert_eq!(rt;
+            place_of_neighbor(config.neighbors(), Addr::V4(peer)),
+            wanted,
+            "{peer}"
+        );
     }
     Ok(())
+}
+
+#[test]
+fn a_copied_process_is_the_same(rt: HostRuntime) {
+    let section = process(ANNOUNCER);
+    assert!(rt; section.copy().is_same(&section));
+    assert!(rt; !section.is_same(&process(CHECKER)));
 }
 
 #[test]
@@ -233,39 +247,61 @@ fn a_command_is_for_the_picked_neighbours_that_hear_its_process(
         ("no pick", ANNOUNCER, None, None, 0, true),
         ("no pick, the second", ANNOUNCER, None, None, 1, true),
         ("past the last one", ANNOUNCER, None, None, 2, false),
-        ("a process that it doesn't hear", CHECKER, None, None, 1, false),
+        (
+            "a process that it doesn't hear",
+            CHECKER,
+            None,
+            None,
+            1,
+            false,
+        ),
         ("no process", CHECKER, None, None, 0, true),
         ("its address", ANNOUNCER, second, None, 1, true),
         ("another address", ANNOUNCER, second, None, 0, false),
-        ("its AS", ANNOUNCER, Some(pick(FIRST, Some(65002))), None, 0, true),
-        ("another AS", ANNOUNCER, Some(pick(FIRST, Some(65001))), None, 0, false),
-        ("self in its family", ANNOUNCER, None, Some(Family::Ipv4), 0, true),
-        ("self in another one", ANNOUNCER, None, Some(Family::Ipv6), 0, false),
+        (
+            "its AS",
+            ANNOUNCER,
+            Some(pick(FIRST, Some(65002))),
+            None,
+            0,
+            true,
+        ),
+        (
+            "another AS",
+            ANNOUNCER,
+            Some(pick(FIRST, Some(65001))),
+            None,
+            0,
+            false,
+        ),
+        (
+            "self in its family",
+            ANNOUNCER,
+            None,
+            Some(Family::Ipv4),
+            0,
+            true,
+        ),
+        (
+            "self in another one",
+            ANNOUNCER,
+            None,
+            Some(Family::Ipv6),
+            0,
+            false,
+        ),
     ];
     'cases: for (case, process, written, family, n, wanted) in table {
         let mut selector: Selector = Items::new(rt.alloc());
         if let Some(pick) = written {
             found(selector.push(pick))?;
         }
-        assert_eq!(rt; selected(&config, process, &selector, family, n), wanted, "{case}");
+        assert_eq!(rt;
+            selected(&config, process, &selector, family, n),
+            wanted,
+            "{case}"
+        );
     }
-    Ok(())
-}
-
-#[test]
-fn a_process_without_a_section_is_refused(rt: HostRuntime) -> Result<(), Fail> {
-    let mut draft = Draft::new(rt.alloc());
-    run(&mut draft, process(ANNOUNCER))?;
-    let both = [ANNOUNCER, CHECKER];
-    let section = neighbor(rt.alloc(), settings(FIRST, 65002), &both, net()?, 0);
-    add(&mut draft, found(section)?)?;
-    assert_eq!(rt; draft.unknown().map(|name| name.as_slice()), Some(CHECKER));
-    let fault = ConfigFault {
-        line: 0,
-        column: 0,
-        kind: ConfigKind::Process,
-    };
-    assert_eq!(rt; check(draft).err(), Some(fault));
     Ok(())
 }
 
@@ -274,10 +310,15 @@ fn a_reload_keeps_equal_settings_and_resets_others(rt: HostRuntime) -> Result<()
     let old = timed(rt.alloc(), &[(FIRST, 180), (SECOND, 180), (THIRD, 180)])?;
     let new = timed(rt.alloc(), &[(FOURTH, 180), (SECOND, 90), (FIRST, 180)])?;
     let plan = found(reload_plan(rt.alloc(), &old, &new))?;
-    assert_eq!(rt; plan.keep.as_slice(), [Addr::V4(FIRST)].as_slice());
-    assert_eq!(rt; plan.reset.as_slice(), [Addr::V4(SECOND)].as_slice());
-    assert_eq!(rt; plan.add.as_slice(), [Addr::V4(FOURTH)].as_slice());
-    assert_eq!(rt; plan.remove.as_slice(), [Addr::V4(THIRD)].as_slice());
+    let table = [
+        ("keep", plan.keep.as_slice(), FIRST),
+        ("reset", plan.reset.as_slice(), SECOND),
+        ("add", plan.add.as_slice(), FOURTH),
+        ("remove", plan.remove.as_slice(), THIRD),
+    ];
+    'lists: for (list, peers, wanted) in table {
+        assert_eq!(rt; peers, [Addr::V4(wanted)].as_slice(), "{list}");
+    }
     Ok(())
 }
 
@@ -290,22 +331,4 @@ fn a_hundred_thousand_static_routes_find_memory(rt: HostRuntime) -> Result<(), F
     add(&mut draft, copied)?;
     assert_eq!(rt; draft.routes(), 100_000);
     Ok(())
-}
-
-#[test]
-fn each_kind_of_fault_has_a_number_and_a_word(rt: HostRuntime) {
-    let table = [
-        (ConfigKind::Token, 1, "token"),
-        (ConfigKind::Twice, 2, "twice"),
-        (ConfigKind::Missing, 3, "missing"),
-        (ConfigKind::Family, 4, "family"),
-        (ConfigKind::Many, 5, "many"),
-        (ConfigKind::Process, 6, "process"),
-        (ConfigKind::Long, 7, "long"),
-        (ConfigKind::NoProcess, 8, "no-process"),
-    ];
-    'kinds: for (kind, number, word) in table {
-        assert_eq!(rt; kind.number(), number, "{word}");
-        assert_eq!(rt; kind.word(), word);
-    }
 }

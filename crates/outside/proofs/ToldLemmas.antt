@@ -1,8 +1,9 @@
 -- Told bytes grow and shrink piece by piece, and a count that was counted up has risen.
-use Rattle.std.proofs.Common.{ℕ, ◌≡◌, List, ◌++◌, ◌∙◌, sym, ap, append_assoc, arith}
+use Rattle.std.proofs.Common.{ℕ, ◌≡◌, List, [], ◌∷◌, ◌++◌, ◌∙◌, sym, ap, append_assoc, arith}
 use Rattle.std.specs.declared.option.Option.{Option}
 use Rattle.std.specs.declared.option.Option.TheVariants.{Some, None}
-use Rattle.outside.specs.Told.{Grows, Shrinks, Rose, counted}
+use Rattle.outside.specs.Told.{Grows, Shrinks, Rose, GaveNothing, counted}
+use Rattle.outside.specs.Ended.{Gathers}
 
 -- by two pieces, one behind the other
 pub grows_more :
@@ -29,3 +30,15 @@ shrinks_more (Some was) (Some then) (Some now) first second before after =
 -- a count of one more has risen
 pub counted_rose : (before now : ℕ) → now ≡ counted before → Rose before now
 counted_rose before now is = omega arith
+
+-- a list that grows by an item grows by the piece that is that item
+pub item_grows :
+    (old new : Option (List ℕ)) (item : ℕ) → Gathers old new (Some item) → Grows old new (item ∷ [])
+item_grows old None item step = tt
+item_grows None (Some now) item step = absurd step
+item_grows (Some was) (Some now) item step = step
+
+-- where nothing is told to have been given, nothing was given
+pub none_given : (told : Option (List ℕ)) → told ≡ Some [] → GaveNothing told
+none_given None is = tt
+none_given (Some bytes) is = cc

@@ -8,3 +8,17 @@ pub mod Store
 pub mod Listed
 pub mod Seen
 pub mod Lent
+pub mod Moments
+pub mod Ended
+pub mod Spawning
+pub mod Dialling
+pub mod Receiving
+pub mod Hearing
+pub mod Refusals
+pub mod Holding
+pub mod Kept
+pub mod Rolls
+pub mod Waiting
+pub mod Children
+pub mod Spawners
+pub mod Links

@@ -1,5 +1,5 @@
 -- What a source in memory gives.
-use Rattle.std.specs.Prelude.{ℕ, ◌≡◌, ◌-◌, ◌^◌, List, length, drop, min, ◌==◌, if◌then◌else◌, ⊤}
+use Rattle.std.specs.Prelude.{ℕ, ◌≡◌, ◌-◌, ◌^◌, List, length, take, drop, min, ◌==◌, if◌then◌else◌, ⊤}
 use Rattle.outside.specs.declared.files.Opened.{Opened}
 use Rattle.outside.specs.declared.files.Opened.TheVariants as opened
 use Rattle.outside.specs.declared.memory.sure_source.SureSource.{SureSource}
@@ -13,6 +13,10 @@ step_of s = s.step
 -- the bytes that it has still to give
 abbrev pub rest_of : SureSource → List ℕ
 rest_of s = drop s.at s.content.now
+
+-- the bytes that it has given
+abbrev pub given_of : SureSource → List ℕ
+given_of s = take s.at s.content.now
 
 -- as many bytes as a buffer, a step and the bytes left allow, or else the end
 abbrev pub answer_of : ℕ → ℕ → List ℕ → Read

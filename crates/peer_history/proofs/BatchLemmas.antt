@@ -27,7 +27,8 @@ use Rattle.peer_history.specs.Steps.Step.{Up, Down, Cut}
 use Rattle.peer_history.specs.Steps.Answer.{Message, Nothing}
 use Rattle.peer_history.specs.Table.{view}
 use Rattle.peer_history.proofs.KeyLemmas.{is_named-append, times_named-append, some_named, some_once, each_named}
-use Rattle.peer_history.proofs.MessageLemmas.{Grammar, AreFor, head_marks, net_meant, names_keys, said_is, written_marks}
+use Rattle.peer_history.proofs.MessageLemmas.{Grammar, AreFor, head_marks, net_meant, names_keys, said_is}
+use Rattle.peer_history.proofs.MessageLemmas.{written_marks}
 use Rattle.peer_history.proofs.SameLemmas.{same_family_is, differ_not}
 use Rattle.peer_history.proofs.SessionLemmas.{live_stands, legal_tail, legal_front, at_session, no_message}
 
@@ -87,7 +88,8 @@ are_said caps steps bytes (head.Here family w) keys marked due = record {
 are_said caps steps bytes (head.End family) keys marked due = record {
   left = rw due.none tt;
   each = rw due.none tt;
-  marker = λ f e. subst (λ g. is_marker_left caps steps g ≡ true) (same_family_is family f (sym (marked f) ∙ e)) due.left;
+  marker = λ f e. subst (λ g. is_marker_left caps steps g ≡ true) (same_family_is family f (sym (marked f) ∙ e))
+      due.left;
   some = let one = one_mark family bytes marked in omega arith;
 }
 

@@ -36,7 +36,8 @@ sent_wanted settings (Some route) h = refl
 sent_wanted None None h = h
 sent_wanted (Some own) None h = h
 
-pub shown_wanted : (caps : Caps) (steps : List Step) (key : Key) → IsSome (view caps steps key) → IsSome (want steps key)
+pub shown_wanted : (caps : Caps) (steps : List Step) (key : Key) → IsSome (view caps steps key)
+    → IsSome (want steps key)
 shown_wanted caps steps key h =
     elim (is_visible caps key) as (λ b. is_some (if b then route_sent (settings_in steps) (want steps key) else None)
     ≡ true → IsSome (want steps key)) [

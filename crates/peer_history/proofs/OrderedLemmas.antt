@@ -1,5 +1,6 @@
 -- Lists in order have each of their keys once.
-use Rattle.std.proofs.Common.{◌≡◌, ℕ, ◌+◌, Bool, true, false, List, [], ◌∷◌, ◌++◌, Some, None, refl, sym, ap, ◌∙◌, subst}
+use Rattle.std.proofs.Common.{◌≡◌, ℕ, ◌+◌, Bool, true, false, List, [], ◌∷◌, ◌++◌, Some, None, refl, sym, ap, ◌∙◌}
+use Rattle.std.proofs.Common.{subst}
 use Rattle.std.proofs.Common.{arith, inl, inr}
 use Rattle.std.specs.Prelude.{◌||◌, ◌⊎◌, map, filter, if◌then◌else◌, Option, unwrap_or, IsSome, is_some}
 use Rattle.std.specs.declared.cmp.Ordering.{Ordering}
@@ -117,8 +118,8 @@ filter_times test (k ∷ ks) key =
     ] refl
 
 -- a test that passes asked-for keys alone lists what it passes
-listed : (test : Key → Bool) (keys : List Key) → ((key : Key) → test key ≡ true → is_named keys key ≡ true) → (key : Key)
-    → times_named (filter test (in_order keys)) key ≡ (if test key then 1 else 0)
+listed : (test : Key → Bool) (keys : List Key) → ((key : Key) → test key ≡ true → is_named keys key ≡ true)
+    → (key : Key) → times_named (filter test (in_order keys)) key ≡ (if test key then 1 else 0)
 listed test keys within key =
     filter_times test (in_order keys) key ∙ elim (test key) as (λ t. test key ≡ t
     → (if t then times_named (in_order keys) key else 0) ≡ (if t then 1 else 0)) [

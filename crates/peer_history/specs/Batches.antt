@@ -1,5 +1,5 @@
--- Batches: the messages that lead a peer from what it has to one state of the table. A batch begins with a message where
--- none is open, and is whole with its last message.
+-- Batches: the messages that lead a peer from what it has to one state of the table. A batch begins with a message
+-- where none is open, and is whole with its last message.
 use Rattle.std.specs.Prelude.{ℕ, ◌≡◌, ◌&&◌, ◌||◌, Bool, true, false, not, List, [], ◌∷◌, if◌then◌else◌}
 use Rattle.std.specs.Prelude.{Option, Some, None, unwrap_or, is_some}
 use Rattle.route_values.specs.declared.addr.Family.{Family}

@@ -1,12 +1,12 @@
 -- An OPEN that is written is read back.
-use Rattle.std.proofs.Common.{ℕ, ◌≡◌, ◌≢◌, ◌+◌, ◌^◌, ◌<◌, ◌≤◌, ◌==◌, ◌||◌, nat_lt, Bool, true, false, not, IsTrue}
+use Rattle.std.proofs.Common.{ℕ, ◌≡◌, ◌≢◌, ◌^◌, ◌<◌, ◌==◌, ◌||◌, nat_lt, Bool, true, false, not, IsTrue}
 use Rattle.std.proofs.Common.{List, []}
-use Rattle.std.proofs.Common.{◌∷◌, ◌++◌, length, get_or, take, drop, Option, Some, None, Result, Ok, Err, arith}
+use Rattle.std.proofs.Common.{◌∷◌, ◌++◌, length, take, drop, Option, Some, None, Result, Ok, Err, arith}
 use Rattle.std.proofs.Common.{ap, sym}
-use Rattle.std.proofs.Common.{◌∙◌, refl, subst, append-nil, length-append, eq-eqb, if◌then◌else◌}
-use Rattle.std.specs.Int.{w16, w32, to_be_bytes, from_be_bytes}
+use Rattle.std.proofs.Common.{◌∙◌, refl, append-nil, length-append, eq-eqb, if◌then◌else◌}
+use Rattle.std.specs.Int.{w16, w32, to_be_bytes}
 use Rattle.std.specs.List.{flat_map}
-use Rattle.std.specs.Option.{option_or, ok_or, unwrap_or}
+use Rattle.std.specs.Option.{ok_or, unwrap_or}
 use Rattle.std.proofs.lemmas.Bool.{le-ltb, ne_eqb}
 use Rattle.std.proofs.lemmas.Nat.{from_be_bytes-to_be_bytes_4}
 use Rattle.std.proofs.lemmas.List.{take_at, drop_at}
@@ -22,12 +22,12 @@ use Rattle.session_codec.specs.declared.offer.Path.TheVariants as way
 use Rattle.session_codec.specs.declared.reading.said.Said.{Said}
 use Rattle.session_codec.specs.declared.reading.ways.Ways.{Ways}
 use Rattle.session_codec.specs.Numbers.{caps_type, cap_family, cap_refresh, cap_extended, cap_as, cap_paths}
-use Rattle.session_codec.specs.Written.{Field, field_text, family_field, entry_text, entries_text, way_offered}
+use Rattle.session_codec.specs.Written.{Field, field_text, family_field, entry_text, way_offered}
 use Rattle.session_codec.specs.Written.{field_when}
-use Rattle.session_codec.specs.Written.{offered, parameter_text, as_field, open_body}
-use Rattle.session_codec.specs.Found.{entry_at, entry_step, entries_of, first_as}
+use Rattle.session_codec.specs.Written.{offered, parameter_text, open_body}
+use Rattle.session_codec.specs.Found.{entry_at, first_as}
 use Rattle.session_codec.specs.ReadOpen.{field_at, cap_step, caps_in, parameter_step, unspecific, caps_at, all_caps}
-use Rattle.session_codec.specs.ReadOpen.{hold_at, id_at, wants_as, judged, open_of, opens_four, opens}
+use Rattle.session_codec.specs.ReadOpen.{wants_as, judged, open_of, opens_four, opens}
 use Rattle.session_codec.specs.Said.{said_by, said_then, open_by}
 use Rattle.session_codec.specs.Laws.{offer_of, IsOffer, WrittenIsRead}
 use Rattle.session_codec.proofs.SaidLemmas.{caps_shrink, parameters_shrink, said_by-append, any_none}

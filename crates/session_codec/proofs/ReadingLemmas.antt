@@ -1,6 +1,6 @@
 -- The loops that read capabilities, parameters and the entries of ADD-PATH, and what follows from what they say.
-use Rattle.std.proofs.Common.{ℕ, ◌≡◌, ◌<◌, ◌==◌, Bool, true, false, List, [], ◌∷◌, length, Option, Some, None}
-use Rattle.std.proofs.Common.{Result, Ok, Err, arith, ap, sym, ◌∙◌, refl, subst}
+use Rattle.std.proofs.Common.{ℕ, ◌≡◌, ◌<◌, ◌==◌, true, false, List, [], length, Option, Some, None}
+use Rattle.std.proofs.Common.{Result, Ok, Err, arith, ap, sym, ◌∙◌, refl}
 use Rattle.std.specs.Option.{ok_or}
 use Rattle.std.proofs.lemmas.Bool.{eqb-true, eqb-false}
 use Rattle.route_values.specs.declared.settings.Settings.{Settings}
@@ -11,7 +11,7 @@ use Rattle.session_codec.specs.declared.reading.said.Said.{Said}
 use Rattle.session_codec.specs.declared.reading.ways.Ways.{Ways}
 use Rattle.session_codec.specs.Written.{Field}
 use Rattle.session_codec.specs.Found.{Entry, entry_step, entries_of, first_as}
-use Rattle.session_codec.specs.ReadOpen.{field_at, cap_step, caps_in, parameter_step, unspecific, bad_parameter}
+use Rattle.session_codec.specs.ReadOpen.{field_at, cap_step, caps_in, parameter_step, unspecific}
 use Rattle.session_codec.specs.ReadOpen.{caps_at}
 use Rattle.session_codec.specs.ReadOpen.{wants_as, judged, open_of, opens_four}
 use Rattle.session_codec.specs.Said.{ways_by, ways_of, ways_then, said_by, said_of, said_then, told, said_at, open_by}

@@ -1,26 +1,22 @@
 -- How what capabilities say is gathered, and that each entry, capability and parameter takes at least one byte.
 use Rattle.std.proofs.Common.{ℕ, ◌≡◌, ◌<◌, ◌≤◌, ◌||◌, Bool, true, false, List, [], ◌∷◌, ◌++◌, length, get_or, take}
-use Rattle.std.proofs.Common.{drop, nat_lt, Option, Some, None, Result, Ok, Err, arith, length-drop, ap, refl, sym, ◌∙◌}
+use Rattle.std.proofs.Common.{drop, nat_lt, Option, Some, None, Ok, arith, length-drop, ap, refl, sym, ◌∙◌}
 use Rattle.std.proofs.Common.{subst, option_map, if◌then◌else◌}
 use Rattle.std.specs.Int.{w16, from_be_bytes}
-use Rattle.std.specs.List.{flat_map, list_any}
 use Rattle.std.specs.Option.{option_or, ok_or}
 use Rattle.std.proofs.lemmas.Bool.{ltb-false}
 use Rattle.std.proofs.lemmas.Grind.{flat_map-append}
 use Rattle.std.proofs.lemmas.List.Folds.{list_any-append}
 use Rattle.std.proofs.lemmas.Option.{same_Some}
-use Rattle.route_values.specs.declared.addr.Family.{Family}
-use Rattle.route_values.specs.declared.addr.Family.TheVariants.{Ipv4, Ipv6}
-use Rattle.frame_cutter.specs.declared.refusal.Refusal.{Refusal}
 use Rattle.update_grammar.specs.ReadFamilies.{family_of_numbers}
-use Rattle.update_grammar.specs.Steps.{◌>>=◌, each}
+use Rattle.update_grammar.specs.Steps.{◌>>=◌}
 use Rattle.update_grammar.proofs.ReadPrefixLemmas.{ok_or_some, unless}
 use Rattle.update_grammar.proofs.StepsLemmas.{Shrinks, bind_ok, ok_is}
 use Rattle.session_codec.specs.declared.offer.Path.{Path}
 use Rattle.session_codec.specs.declared.reading.said.Said.{Said}
 use Rattle.session_codec.specs.declared.reading.ways.Ways.{Ways}
 use Rattle.session_codec.specs.Written.{Field}
-use Rattle.session_codec.specs.Found.{first_some, Entry, entry_at, entry_step, way_of_number, way_for, entries_said}
+use Rattle.session_codec.specs.Found.{first_some, Entry, entry_at, entry_step, way_of_number}
 use Rattle.session_codec.specs.ReadOpen.{field_at, cap_step, caps_in, parameter_step, all_caps, unspecific}
 use Rattle.session_codec.specs.Said.{ways_by, ways_of, ways_then, said_by, said_of, said_then}
 use Rattle.session_codec.proofs.GatherLemmas.{Gathers}

@@ -1,5 +1,5 @@
 -- The law of OPEN: what is written is read back.
-use Rattle.std.specs.Prelude.{ℕ, ◌≡◌, ◌≢◌, ◌^◌, ◌<◌, ◌||◌, IsTrue, Ok}
+use Rattle.std.specs.Prelude.{◌≡◌, ◌≢◌, ◌^◌, ◌<◌, ◌||◌, IsTrue, Ok}
 use Rattle.route_values.specs.declared.addr.Family.TheVariants.{Ipv4, Ipv6}
 use Rattle.route_values.specs.declared.settings.Settings.{Settings}
 use Rattle.session_codec.specs.declared.offer.Open.{Open}

@@ -1,6 +1,6 @@
 -- The body of an OPEN as it is read (RFC 4271, sections 4.2 and 6.2; RFC 5492): what it says, or the first reason to
 -- refuse it.
-use Rattle.std.specs.Prelude.{ℕ, ◌==◌, nat_lt, Bool, not, ◌||◌, List, [], ◌∷◌, ◌++◌, length, take, drop, get_or}
+use Rattle.std.specs.Prelude.{ℕ, ◌==◌, nat_lt, not, ◌||◌, List, [], length, take, drop, get_or}
 use Rattle.std.specs.Prelude.{if◌then◌else◌, Option, Some, None, ok_or, unwrap_or, Result, Ok, Err}
 use Rattle.std.specs.Int.{w16, w32, to_be_bytes, from_be_bytes}
 use Rattle.std.specs.List.{flat_map}

@@ -1,5 +1,5 @@
 -- What capabilities say, gathered from the front.
-use Rattle.std.specs.Prelude.{ℕ, ◌||◌, List, [], ◌∷◌, unwrap_or, not, Result, Ok}
+use Rattle.std.specs.Prelude.{ℕ, ◌||◌, List, unwrap_or, not, Result, Ok}
 use Rattle.std.specs.List.{flat_map}
 use Rattle.std.specs.Option.{option_or}
 use Rattle.route_values.specs.declared.addr.Family.TheVariants.{Ipv4, Ipv6}

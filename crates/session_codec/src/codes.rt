@@ -35,10 +35,12 @@ pub const BOTH: u8 = 3;
 /// The byte between AFI and SAFI (RFC 4760, section 8; RFC 2918, section 3). It isn't looked at.
 pub const RESERVED: u8 = 0;
 
+/// Unspecific, the subcode where a code has none that fits (RFC 4271, section 4.5). An OPEN whose optional parameters
+/// don't fill their field has it, too (section 6.2).
+pub const UNSPECIFIC: u8 = 0;
+
 /// OPEN Message Error (RFC 4271, section 6.2). The subcodes follow.
 pub const OPEN_ERROR: u8 = 2;
-/// Unspecific: the optional parameters don't fill their field (RFC 4271, section 6.2).
-pub const UNSPECIFIC: u8 = 0;
 /// Unsupported Version Number. The data is the version that is supported, in two bytes (RFC 4271, section 6.2).
 pub const UNSUPPORTED_VERSION: u8 = 1;
 /// Bad Peer AS (RFC 4271, section 6.2).
@@ -52,10 +54,10 @@ pub const UNACCEPTABLE_HOLD_TIME: u8 = 6;
 /// Unsupported Capability. The data is the capability that is wanted (RFC 5492, section 5).
 pub const UNSUPPORTED_CAPABILITY: u8 = 7;
 
-/// Hold Timer Expired, without subcodes (RFC 4271, section 6.5).
+/// Hold Timer Expired (RFC 4271, section 6.5). Its subcode is [`UNSPECIFIC`].
 pub const HOLD_TIMER_EXPIRED: u8 = 4;
 
-/// Finite State Machine Error (RFC 4271, section 6.6).
+/// Finite State Machine Error (RFC 4271, section 6.6). It is sent with the subcode [`UNSPECIFIC`].
 pub const STATE_MACHINE_ERROR: u8 = 5;
 
 /// Cease (RFC 4271, section 6.7). The subcodes follow.

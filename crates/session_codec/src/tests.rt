@@ -1,14 +1,15 @@
-//! Messages as they are written, and OPENs that are refused.
+//! Messages as they are written and read.
 mod opens;
 
-use crate::codes::{ADMINISTRATIVE_SHUTDOWN, CEASE};
+use crate::codes::{OPEN_ERROR, UNSUPPORTED_VERSION};
 use crate::{
-    Agreed, Notification, Open, Path, negotiate, put_keepalive, put_notification, put_open,
-    put_refresh, read_notification, read_open, read_refresh,
+    Agreed, Notification, Open, Path, Refusal, negotiate, put_keepalive, put_notification,
+    put_open, put_refresh, read_notification, read_open, read_refresh,
 };
 use attr_codec::Message;
+use frame_cutter::kinds::HEADER_LEN;
 use opens::{
-    IPV6_REFRESH, KEEPALIVE, OPEN_OF_TWO_FAMILIES, OPEN_WITH_LONG_MESSAGES, REFUSED, TRANSIT,
+    IPV6_REFRESH, KEEPALIVE, OPEN_OF_TWO_FAMILIES, OPEN_WITH_LONG_MESSAGES, TRANSIT, UNSUPPORTED,
 };
 use route_values::{Caps, Family, Settings};
 use std::test::Fail;
@@ -31,14 +32,23 @@ fn an_open_offers_what_the_settings_have(rt: HostRuntime) -> Result<(), Fail> {
 }
 
 #[test]
-fn each_open_at_fault_is_answered_by_its_notification(rt: HostRuntime) -> Result<(), Fail> {
-    for (why, body, wanted) in REFUSED {
-        let mut out = Message::new(rt.alloc(), 4096)?;
-        if let Err(refusal) = read_open(&body, &TRANSIT) {
-            put_notification(&mut out, &refusal);
-        }
-        assert_eq!(rt; out.bytes(), wanted, "{why}");
-    }
+fn an_open_is_read_by_a_neighbour_of_its_as(rt: HostRuntime) -> Result<(), Fail> {
+    let own = Settings {
+        peer_as: 65001,
+        ..TRANSIT
+    };
+    let wanted = Open {
+        asn: 65001,
+        hold: 180,
+        id: 0xC000_0209,
+        ipv4: true,
+        ipv6: true,
+        refresh: true,
+        extended: false,
+        ipv4_path: Path::None,
+        ipv6_path: Path::None,
+    };
+    assert!(rt; read_open(&OPEN_OF_TWO_FAMILIES[HEADER_LEN..], &own) == Ok(wanted));
     Ok(())
 }
 
@@ -68,12 +78,16 @@ fn a_refresh_names_a_family(rt: HostRuntime) -> Result<(), Fail> {
 
 #[test]
 fn a_notification_has_two_codes_and_data(rt: HostRuntime) -> Result<(), Fail> {
+    let mut out = Message::new(rt.alloc(), 4096)?;
+    let refusal = Refusal::new(OPEN_ERROR, UNSUPPORTED_VERSION, &[0, 4]);
+    put_notification(&mut out, &refusal);
+    assert_eq!(rt; out.bytes(), UNSUPPORTED);
     let wanted = Notification {
-        code: CEASE,
-        sub: ADMINISTRATIVE_SHUTDOWN,
-        detail: b"bye",
+        code: OPEN_ERROR,
+        sub: UNSUPPORTED_VERSION,
+        detail: &[0, 4],
     };
-    assert!(rt; read_notification(b"\x06\x02bye") == wanted);
+    assert!(rt; read_notification(&UNSUPPORTED[HEADER_LEN..]) == wanted);
     Ok(())
 }
 

@@ -16,7 +16,7 @@ pub struct SureSource<'a> {
 }
 
 impl<'a> SureSource<'a> {
-    ghost use Rattle.outside.specs.Supply.{step_of};
+    ghost use Rattle.outside.specs.Supply.{step_of, given_of};
 
     /// A source of this content, which gives as many bytes a call as the buffer holds.
     pub fn new(content: &'a [u8]) -> Self
@@ -42,6 +42,13 @@ impl<'a> SureSource<'a> {
             step,
             ended: false,
         }
+    }
+
+    // How many bytes it has given.
+    pub(crate) fn given(&self) -> usize
+        ensures { result ≡ length (given_of self.now) }
+    {
+        self.at
     }
 }
 

@@ -1,0 +1,4 @@
+pub mod Helper
+pub mod Incarnations
+pub mod Starting
+pub mod Lending

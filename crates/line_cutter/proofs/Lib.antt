@@ -1,0 +1,4 @@
+pub mod ContentLemmas
+pub mod UnfinishedLemmas
+pub mod CuttingLemmas
+pub mod ChunkingLemmas

@@ -1,0 +1,4 @@
+pub mod Contents
+pub mod Unfinished
+pub mod Cutting
+pub mod Chunking

@@ -1,0 +1,6 @@
+use Rattle.outside.specs.Children.{sure_child_told}
+use Rattle.outside.proofs.RollLemmas.{all_told_more}
+use Rattle.outside.proofs.memory.sure_spawner.SureSpawnerSpawner.give_back.Goals as goal
+
+pub returns-clause-children : goal.returns-clause-children
+returns-clause-children c = all_told_more sure_child_told _ _ c.args.pipes c.add.ensures

@@ -1,0 +1,13 @@
+pub mod ProductionLemmas
+pub mod LimitLemmas
+pub mod AnsweredLemmas
+pub mod RepeatedLemmas
+pub mod WordLemmas
+pub mod InsideLemmas
+pub mod ListLemmas
+pub mod RowLemmas
+pub mod AlongLemmas
+pub mod GrowLemmas
+pub mod ItemLemmas
+pub mod OperandLemmas
+pub mod PathLemmas

@@ -1,0 +1,22 @@
+//! Words and lists of the items that say what a route is announced with, and the definitions of all items.
+//!
+//! The definitions of grammars stand here too: what a production is, which tokens begin a reading, and where the first
+//! fault of tokens is. They, and the lemmas that join productions, serve every grammar of tokens. The crate stands on
+//! `token_reader`, `text_forms`, `route_values` and `answers`. It reads no item, and knows no command and no file.
+#![tactic(auto)]
+
+mod fault;
+mod items;
+mod kind;
+mod lists;
+mod spellings;
+mod words;
+
+pub use fault::{LineFault, ReadFault};
+pub use items::Items;
+pub use lists::{no_room, read_list};
+pub use spellings::{Asn, Ipv4, Number};
+pub use words::{Spelling, bad_token, front_value, is_mark, read_word, too_many};
+
+#[cfg(test)]
+mod tests;
