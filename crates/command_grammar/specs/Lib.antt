@@ -1,0 +1,7 @@
+pub mod Keywords
+pub mod Forms
+pub mod Selectors
+pub mod Routes
+pub mod Targets
+pub mod Lines
+pub mod Readings
