@@ -1,7 +1,9 @@
 -- A queue of replies never passes its bound.
-use Rattle.std.proofs.Common.{◌≡◌, ℕ, ◌+◌, ◌-◌, ◌<◌, ◌≤◌, Bool, true, false, not, List, [], ◌∷◌, ◌++◌, length, Some, None}
+use Rattle.std.proofs.Common.{◌≡◌, ℕ, ◌+◌, ◌-◌, ◌<◌, ◌≤◌, Bool, true, false, not, List, [], ◌∷◌, ◌++◌, length, Some}
+use Rattle.std.proofs.Common.{None}
 use Rattle.std.proofs.Common.{Ok, Err, refl, sym, ap, ◌∙◌, subst, inl, inr, arith, eqb-true, eq-eqb, length-append}
-use Rattle.std.specs.Prelude.{◌==◌, ◌&&◌, ◌||◌, ◌⊎◌, if◌then◌else◌, nat_lt, min, take, drop, map, Option, Result, IsTrue}
+use Rattle.std.specs.Prelude.{◌==◌, ◌&&◌, ◌||◌, ◌⊎◌, if◌then◌else◌, nat_lt, min, take, drop, map, Option, Result}
+use Rattle.std.specs.Prelude.{IsTrue}
 use Rattle.std.proofs.lemmas.Bool.{and_parts, and_from, both_ways, not-true}
 use Rattle.std.proofs.lemmas.Bool.Decides.{Decides-ltb, not_from_Decides}
 use Rattle.std.proofs.lemmas.List.{length-drop, length-take}
@@ -26,12 +28,13 @@ use Rattle.book_history.specs.Entries.Entry.{LineEntered, RepliesTaken, HelperDe
 use Rattle.book_history.specs.HelperLaws.{QueuesAreBounded}
 use Rattle.book_history.specs.Helpers.{Child, child, deafened, is_running, leaves, starts_counted, without}
 use Rattle.book_history.specs.Helpers.Child.{NoChild, Running, Deaf}
-use Rattle.book_history.specs.Legal.{AllowsLine, AllowsTake, IsLegal}
+use Rattle.book_history.specs.Legal.{IsVerdict, AllowsTake, IsLegal}
 use Rattle.book_history.specs.Nodes.{nodes}
 use Rattle.book_history.specs.Replies.{acks, done_replies, handed_out, has_queue, is_of, line_replies, queued, refusal}
 use Rattle.book_history.specs.Replies.{replies, reply_if, taken}
 use Rattle.book_history.specs.Shows.{shown}
-use Rattle.book_history.specs.Verdicts.{command_verdict, is_late, line_verdict, matches_none, may_lack_memory, overflows}
+use Rattle.book_history.specs.Verdicts.{command_verdict, is_late, line_verdict, matches_none, may_lack_memory}
+use Rattle.book_history.specs.Verdicts.{overflows}
 use Rattle.book_history.specs.Verdicts.{is_stopping, reading_verdict}
 use Rattle.book_history.proofs.StartLemmas.{incarnations_count, second_is, not_false, neither}
 
@@ -86,7 +89,7 @@ fits_by cfg H h inc given with_it asked e =
 
 -- what becomes of a line, and whether it is taken
 line_room : (cfg : Sections) (H : History) (h inc : ℕ) (line : Line) (reading : Result Command ReadFault)
-    (given : Verdict) → AllowsLine cfg H h inc line reading given → length (queued cfg h inc H) ≤ max_queued
+    (given : Verdict) → IsVerdict cfg H h inc line reading given → length (queued cfg h inc H) ≤ max_queued
     → length (queued cfg h inc H) + length (line_replies cfg H h inc reading given) ≤ max_queued
 line_room cfg H h inc line reading verdict.Ended allows few = omega (arith, few)
 line_room cfg H h inc line reading verdict.Busy allows few = omega (arith, few)
@@ -107,7 +110,7 @@ line_room cfg H h inc line (Ok given) verdict.Done (inr both) few = cc
 
 -- a line that comes too late has no reply
 late_none : (cfg : Sections) (H : History) (h inc : ℕ) (line : Line) (reading : Result Command ReadFault)
-    (given : Verdict) → AllowsLine cfg H h inc line reading given → is_late cfg H h inc ≡ true
+    (given : Verdict) → IsVerdict cfg H h inc line reading given → is_late cfg H h inc ≡ true
     → length (line_replies cfg H h inc reading given) ≡ 0
 late_none cfg H h inc line reading verdict.Ended allows late = refl
 late_none cfg H h inc line reading verdict.Busy allows late = refl
@@ -163,7 +166,7 @@ handed_few cfg H h inc (take.Replies given) allows =
 
 -- the queue after a line of its own
 line_queue : (cfg : Sections) (H : History) (h inc : ℕ) (line : Line) (reading : Result Command ReadFault)
-    (given : Verdict) → AllowsLine cfg H h inc line reading given → IsQueue cfg H h inc
+    (given : Verdict) → IsVerdict cfg H h inc line reading given → IsQueue cfg H h inc
     → IsQueue cfg (LineEntered h inc line reading given ∷ H) h inc
 line_queue cfg H h inc line reading given allows is =
     let own : is_of h inc h inc ≡ true = and_from _ _ (eq-eqb h h refl) (eq-eqb inc inc refl) in
@@ -280,7 +283,7 @@ left_child false was inc h = cc
 
 -- an entry of another helper, or of none
 by_slot : (cfg : Sections) (H : History) (h inc k i : ℕ) (line : Line) (reading : Result Command ReadFault)
-    (given : Verdict) → AllowsLine cfg H k i line reading given → IsQueue cfg H h inc → (so : Bool)
+    (given : Verdict) → IsVerdict cfg H k i line reading given → IsQueue cfg H h inc → (so : Bool)
     → is_of k i h inc ≡ so → IsQueue cfg (LineEntered k i line reading given ∷ H) h inc
 by_slot cfg H h inc k i line reading given allows is true own =
     let both = and_parts _ _ own in
@@ -288,8 +291,8 @@ by_slot cfg H h inc k i line reading given allows is true own =
     let same_inc : i ≡ inc = eqb-true i inc both.1 in
     subst (λ a. IsQueue cfg (LineEntered a i line reading given ∷ H) h inc) (sym same_slot)
     (subst (λ b. IsQueue cfg (LineEntered h b line reading given ∷ H) h inc) (sym same_inc)
-    (line_queue cfg H h inc line reading given (subst (λ a. AllowsLine cfg H a inc line reading given) same_slot
-    (subst (λ b. AllowsLine cfg H k b line reading given) same_inc allows)) is))
+    (line_queue cfg H h inc line reading given (subst (λ a. IsVerdict cfg H a inc line reading given) same_slot
+    (subst (λ b. IsVerdict cfg H k b line reading given) same_inc allows)) is))
 by_slot cfg H h inc k i line reading given allows is false other =
     let same : replies cfg h inc (LineEntered k i line reading given ∷ H) ≡ replies cfg h inc H =
         ap (λ so. if so then replies cfg h inc H ++ line_replies cfg H h inc reading given else replies cfg h inc H)
@@ -352,7 +355,7 @@ is_queue cfg h inc [] legal = record {
   born = λ runs. cc;
 }
 is_queue cfg h inc (LineEntered k i line reading given ∷ H) legal =
-    by_slot cfg H h inc k i line reading given legal.0 (is_queue cfg h inc H legal.1) (is_of k i h inc) refl
+    by_slot cfg H h inc k i line reading given legal.0.1 (is_queue cfg h inc H legal.1) (is_of k i h inc) refl
 is_queue cfg h inc (RepliesTaken k i given ∷ H) legal =
     taken_by_slot cfg H h inc k i given legal.0 (is_queue cfg h inc H legal.1) (is_of k i h inc) refl
 is_queue cfg h inc (SpawnAsked k now (spawn.Go own run) ∷ H) legal =

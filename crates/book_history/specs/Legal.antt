@@ -3,12 +3,10 @@ use Rattle.std.specs.Prelude.{ℕ, ◌≡◌, ◌⊎◌, ◌==◌, ◌+◌, ◌&
 use Rattle.std.specs.Prelude.{length, take, Result, Ok, Err, if◌then◌else◌, Option, Some, None, IsTrue}
 use Rattle.route_values.specs.declared.settings.Settings.{Settings}
 use Rattle.text_forms.specs.Lines.{Line}
-use Rattle.text_forms.specs.Lines as line
-use Rattle.route_grammar.specs.declared.fault.LineFault.TheVariants as fault
 use Rattle.route_grammar.specs.declared.fault.ReadFault.{ReadFault}
-use Rattle.route_grammar.specs.declared.fault.ReadFault.TheVariants as read
 use Rattle.command_grammar.specs.declared.command.Command.{Command}
 use Rattle.command_grammar.specs.declared.command.Command.TheVariants as command
+use Rattle.command_grammar.specs.Readings.{Says}
 use Rattle.config_model.specs.declared.sections.Neighbor.{Neighbor}
 use Rattle.config_model.specs.declared.sections.Process.{Process}
 use Rattle.config_model.specs.Plan.{same_settings}
@@ -44,10 +42,14 @@ use Rattle.book_history.specs.Slots.{neighbor_at, process_at}
 use Rattle.book_history.specs.Verdicts.{is_stopping, line_verdict, may_lack_memory}
 
 -- a line has the verdict that is defined, or want of memory where that may stand in its place
-abbrev pub AllowsLine : Sections → History → ℕ → ℕ → Line → Result Command ReadFault → Verdict → Type 0
-AllowsLine cfg H h inc line reading given =
+abbrev pub IsVerdict : Sections → History → ℕ → ℕ → Line → Result Command ReadFault → Verdict → Type 0
+IsVerdict cfg H h inc line reading given =
     (given ≡ line_verdict cfg H h inc line reading)
     ⊎ ((given ≡ verdict.Error why.NoMemory) × IsTrue (may_lack_memory cfg H h inc))
+
+-- a line was read as what it says, and has its verdict
+abbrev pub AllowsLine : Sections → History → ℕ → ℕ → Line → Result Command ReadFault → Verdict → Type 0
+AllowsLine cfg H h inc line reading given = Says line reading × IsVerdict cfg H h inc line reading given
 
 -- whether nothing more can come for an incarnation whose queue is empty
 abbrev pub is_over : Sections → History → ℕ → ℕ → Bool
