@@ -1,0 +1,5 @@
+pub mod StepLemmas
+pub mod HeadlineLemmas
+pub mod StartLemmas
+pub mod QueueLemmas
+pub mod NodeLemmas

@@ -1,0 +1,10 @@
+use Rattle.book_history.proofs.QueueLemmas.{queues_are_bounded}
+use Rattle.book_history.proofs.StartLemmas.{incarnations_count, starts_are_few}
+use Rattle.book_history.proofs.laws.helpers_are_bounded.Goals as goal
+
+pub returns : goal.returns
+returns c = record {
+  queues = queues_are_bounded;
+  incarnations = incarnations_count;
+  starts = starts_are_few;
+}

@@ -1,0 +1,14 @@
+pub mod Bounds
+pub mod Entries
+pub mod Slots
+pub mod Selecting
+pub mod PeerSteps
+pub mod Peers
+pub mod Helpers
+pub mod Shows
+pub mod Replies
+pub mod Nodes
+pub mod Verdicts
+pub mod Legal
+pub mod Headline
+pub mod HelperLaws

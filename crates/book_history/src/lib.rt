@@ -1,0 +1,13 @@
+//! The history of the daemon: which events there are, which answers each may have, and what a legal history tells.
+//!
+//! The definitions stand in `specs`: slots and what a reload does to them, the neighbours that a command selects, the
+//! table that each neighbour is to have, helpers with their starts and replies, and route nodes. What happens to one
+//! neighbour is told by the crate `peer_history`, on which the law of whole batches rests. Nothing here does anything:
+//! the types are the answers of events, and each function is empty, with a law of the definitions as its contract.
+#![tactic(auto)]
+
+mod answers;
+mod laws;
+
+pub use answers::{Control, Cut, NotRead, Peer, Reload, Spawn, Take, Up, Verdict, Why};
+pub use laws::{helpers_are_bounded, nodes_stay, nothing_pending, whole_batches};
