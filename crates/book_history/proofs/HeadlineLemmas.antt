@@ -34,7 +34,7 @@ whole_batches whole packed cfg later H n caps bytes legal at =
     let steps = steps_of cfg n H in
     let same = own_cut cfg n H bytes (cut.Message true) in
     let now : of_slot.IsLegal (Cut (step.Message bytes true) ∷ steps) =
-        subst of_slot.IsLegal same (steps_legal cfg n (entry ∷ H) (legal_before cfg later (entry ∷ H) legal)) in
+    subst of_slot.IsLegal same (steps_legal cfg n (entry ∷ H) (legal_before cfg later (entry ∷ H) legal)) in
     let leaves = whole [] steps caps bytes now at in
     let begins : first_cut steps ≡ steps_of cfg n (first_cut_at n H) = first_steps cfg n H in
     record {
@@ -50,5 +50,5 @@ nothing_pending pending cfg later H n caps bytes legal at key =
     let entry = MessageCut n bytes cut.Nothing in
     let steps = steps_of cfg n H in
     let now : of_slot.IsLegal (Cut step.Nothing ∷ steps) = subst of_slot.IsLegal (own_cut cfg n H bytes cut.Nothing)
-        (steps_legal cfg n (entry ∷ H) (legal_before cfg later (entry ∷ H) legal)) in
+    (steps_legal cfg n (entry ∷ H) (legal_before cfg later (entry ∷ H) legal)) in
     pending [] steps caps now at key

@@ -34,14 +34,15 @@ filter_few narrow wide within [] = omega arith
 filter_few narrow wide within (k ∷ ks) =
     let rest = filter_few narrow wide within ks in
     elim (narrow k) as (λ n. narrow k ≡ n → length (if n then k ∷ filter narrow ks else filter narrow ks)
-        ≤ length (filter wide (k ∷ ks))) [
-      | true ↦ λ e. subst (λ w. length (k ∷ filter narrow ks) ≤ length (if w then k ∷ filter wide ks else filter wide ks))
+    ≤ length (filter wide (k ∷ ks))) [
+      | true ↦ λ e. subst (λ w. length (k ∷ filter narrow ks)
+          ≤ length (if w then k ∷ filter wide ks else filter wide ks))
           (sym (within k e)) (omega (arith, rest))
       | false ↦ λ e. elim (wide k) as (λ w. length (filter narrow ks)
           ≤ length (if w then k ∷ filter wide ks else filter wide ks)) [
-        | true ↦ omega (arith, rest)
-        | false ↦ rest
-      ]
+            | true ↦ omega (arith, rest)
+            | false ↦ rest
+          ]
     ] refl
 
 sums_few : (less more : ℕ → ℕ) → ((n : ℕ) → less n ≤ more n) → (ns : List ℕ) → sum_by less ns ≤ sum_by more ns
@@ -76,18 +77,18 @@ pub sessions_add_no_node : law.SessionsAddNoNode → SessionsAddNoNode
 sessions_add_no_node stay = record {
   up = came_up stay;
   down = λ cfg H n legal.
-    let entry = WentDown n in
-    sums_few (λ m. length (node_keys (steps_of cfg m (entry ∷ H)))) (λ m. length (node_keys (steps_of cfg m H)))
-    (λ m. step_few (n == m) step.Down (steps_of cfg m H) stay.down refl (steps_legal cfg m (entry ∷ H) legal))
-    peer_numbers;
+      let entry = WentDown n in
+      sums_few (λ m. length (node_keys (steps_of cfg m (entry ∷ H)))) (λ m. length (node_keys (steps_of cfg m H)))
+      (λ m. step_few (n == m) step.Down (steps_of cfg m H) stay.down refl (steps_legal cfg m (entry ∷ H) legal))
+      peer_numbers;
   refreshed = λ cfg H n family legal.
-    let entry = RefreshAsked n family in
-    sums_few (λ m. length (node_keys (steps_of cfg m (entry ∷ H)))) (λ m. length (node_keys (steps_of cfg m H)))
-    (λ m. step_few (n == m) (step.Refreshed family) (steps_of cfg m H) (stay.refreshed family) refl
-    (steps_legal cfg m (entry ∷ H) legal)) peer_numbers;
+      let entry = RefreshAsked n family in
+      sums_few (λ m. length (node_keys (steps_of cfg m (entry ∷ H)))) (λ m. length (node_keys (steps_of cfg m H)))
+      (λ m. step_few (n == m) (step.Refreshed family) (steps_of cfg m H) (stay.refreshed family) refl
+      (steps_legal cfg m (entry ∷ H) legal)) peer_numbers;
   cut = λ cfg H n bytes given legal.
-    let entry = MessageCut n bytes given in
-    sums_few (λ m. length (node_keys (steps_of cfg m (entry ∷ H)))) (λ m. length (node_keys (steps_of cfg m H)))
-    (λ m. step_few (n == m) (step.Cut (answer_of bytes given)) (steps_of cfg m H) (stay.cut (answer_of bytes given)) refl
-    (steps_legal cfg m (entry ∷ H) legal)) peer_numbers;
+      let entry = MessageCut n bytes given in
+      sums_few (λ m. length (node_keys (steps_of cfg m (entry ∷ H)))) (λ m. length (node_keys (steps_of cfg m H)))
+      (λ m. step_few (n == m) (step.Cut (answer_of bytes given)) (steps_of cfg m H) (stay.cut (answer_of bytes given))
+      refl (steps_legal cfg m (entry ∷ H) legal)) peer_numbers;
 }

@@ -148,7 +148,7 @@ within_bound : (cfg : Sections) (H : History) (h inc : ℕ) → IsQueue cfg H h 
 within_bound cfg H h inc is =
     let len = queued_len (has_queue cfg h inc H) (length (taken h inc H)) (replies cfg h inc H) in
     let few = bounded (has_queue cfg h inc H) (length (replies cfg h inc H)) (length (taken h inc H)) is.taken_few
-        is.few in
+    is.few in
     subst (λ n. n ≤ max_queued) (sym len) few
 
 no_more : (so : Bool) (many got : ℕ) → (if so then many - got else 0) ≤ many - got
@@ -173,26 +173,26 @@ line_queue cfg H h inc line reading given allows is =
     let before = replies cfg h inc H in
     let new = line_replies cfg H h inc reading given in
     let now : replies cfg h inc (LineEntered h inc line reading given ∷ H) ≡ before ++ new =
-        ap (λ so. if so then before ++ new else before) own in
+    ap (λ so. if so then before ++ new else before) own in
     let len : length (replies cfg h inc (LineEntered h inc line reading given ∷ H)) ≡ length before + length new =
-        ap length now ∙ length-append before new in
+    ap length now ∙ length-append before new in
     let room = line_room cfg H h inc line reading given allows (within_bound cfg H h inc is) in
     let waits = queued_len (has_queue cfg h inc H) (length (taken h inc H)) before in
     record {
       taken_few = let less = is.taken_few in omega (arith, len, less);
       few = λ has.
-        let all : length (queued cfg h inc H) ≡ length before - length (taken h inc H) =
-            waits ∙ ap (λ so. if so then length before - length (taken h inc H) else 0) has in
-        let less = is.taken_few in omega (arith, len, room, all, less);
+          let all : length (queued cfg h inc H) ≡ length before - length (taken h inc H) =
+          waits ∙ ap (λ so. if so then length before - length (taken h inc H) else 0) has in
+          let less = is.taken_few in omega (arith, len, room, all, less);
       unborn = λ early.
-        let none = is.unborn early in
-        let idle : is_running (child cfg h H) inc ≡ false = elim (is_running (child cfg h H) inc) as (λ b.
-            is_running (child cfg h H) inc ≡ b → b ≡ false) [
-          | true ↦ λ e. let old = is.born e in absurd (omega (arith, old, early))
-          | false ↦ λ e. refl
-        ] refl in
-        let late : is_late cfg H h inc ≡ true = ap (λ b. not b || is_stopping H) idle in
-        let silent = late_none cfg H h inc line reading given allows late in omega (arith, len, none, silent);
+          let none = is.unborn early in
+          let idle : is_running (child cfg h H) inc ≡ false = elim (is_running (child cfg h H) inc) as (λ b.
+          is_running (child cfg h H) inc ≡ b → b ≡ false) [
+            | true ↦ λ e. let old = is.born e in absurd (omega (arith, old, early))
+            | false ↦ λ e. refl
+          ] refl in
+          let late : is_late cfg H h inc ≡ true = ap (λ b. not b || is_stopping H) idle in
+          let silent = late_none cfg H h inc line reading given allows late in omega (arith, len, none, silent);
       born = is.born;
     }
 
@@ -203,9 +203,9 @@ take_queue cfg H h inc given allows is =
     let own : is_of h inc h inc ≡ true = and_from _ _ (eq-eqb h h refl) (eq-eqb inc inc refl) in
     let before = taken h inc H in
     let now : taken h inc (RepliesTaken h inc given ∷ H) ≡ before ++ handed_out given =
-        ap (λ so. if so then before ++ handed_out given else before) own in
+    ap (λ so. if so then before ++ handed_out given else before) own in
     let len : length (taken h inc (RepliesTaken h inc given ∷ H)) ≡ length before + length (handed_out given) =
-        ap length now ∙ length-append before (handed_out given) in
+    ap length now ∙ length-append before (handed_out given) in
     let handed = handed_few cfg H h inc given allows in
     let waits = queued_len (has_queue cfg h inc H) (length before) (replies cfg h inc H) in
     let no_more = no_more (has_queue cfg h inc H) (length (replies cfg h inc H)) (length before) in
@@ -224,18 +224,18 @@ start_queue cfg H h now own inc run counts is =
     let own_slot : (h == h) ≡ true = eq-eqb h h refl in
     let entry = SpawnAsked h now (spawn.Go own run) in
     let more : starts_counted h (entry ∷ H) ≡ starts_counted h H + 1 =
-        ap (λ so. if so then starts_counted h H + 1 else starts_counted h H) own_slot in
+    ap (λ so. if so then starts_counted h H + 1 else starts_counted h H) own_slot in
     record {
       taken_few = is.taken_few;
       few = λ has.
-        let same : own ≡ inc = eqb-true own inc
-            (sym (ap (λ so. if so then own == inc else has_queue cfg h inc H) own_slot) ∙ has) in
-        let none = is.unborn (omega (arith, counts, same)) in omega (arith, none);
+          let same : own ≡ inc = eqb-true own inc
+          (sym (ap (λ so. if so then own == inc else has_queue cfg h inc H) own_slot) ∙ has) in
+          let none = is.unborn (omega (arith, counts, same)) in omega (arith, none);
       unborn = λ early. is.unborn (omega (arith, more, early));
       born = λ runs.
-        let same : own ≡ inc = eqb-true own inc
-            (sym (ap (λ so. is_running (if so then Running own else child cfg h H) inc) own_slot) ∙ runs) in
-        omega (arith, more, counts, same);
+          let same : own ≡ inc = eqb-true own inc
+          (sym (ap (λ so. is_running (if so then Running own else child cfg h H) inc) own_slot) ∙ runs) in
+          omega (arith, more, counts, same);
     }
 
 -- a child that is gone, or no longer reads, runs no more than before
@@ -243,7 +243,7 @@ without_runs : (own inc : ℕ) (was : Child) → is_running (without own was) in
 without_runs own inc NoChild runs = runs
 without_runs own inc (Running present) runs =
     elim (present == own) as (λ b. is_running (if b then NoChild else Running present) inc ≡ true
-        → (present == inc) ≡ true) [
+    → (present == inc) ≡ true) [
       | true ↦ λ r. cc
       | false ↦ λ r. r
     ] runs
@@ -257,7 +257,7 @@ deafened_runs : (own inc : ℕ) (was : Child) → is_running (deafened own was) 
 deafened_runs own inc NoChild runs = runs
 deafened_runs own inc (Running present) runs =
     elim (present == own) as (λ b. is_running (if b then Deaf present else Running present) inc ≡ true
-        → (present == inc) ≡ true) [
+    → (present == inc) ≡ true) [
       | true ↦ λ r. cc
       | false ↦ λ r. r
     ] runs
@@ -295,8 +295,8 @@ by_slot cfg H h inc k i line reading given allows is true own =
     (subst (λ b. IsVerdict cfg H k b line reading given) same_inc allows)) is))
 by_slot cfg H h inc k i line reading given allows is false other =
     let same : replies cfg h inc (LineEntered k i line reading given ∷ H) ≡ replies cfg h inc H =
-        ap (λ so. if so then replies cfg h inc H ++ line_replies cfg H h inc reading given else replies cfg h inc H)
-        other in
+    ap (λ so. if so then replies cfg h inc H ++ line_replies cfg H h inc reading given else replies cfg h inc H)
+    other in
     record {
       taken_few = rw same is.taken_few;
       few = λ has. rw same (is.few has);
@@ -316,7 +316,7 @@ taken_by_slot cfg H h inc k i given allows is true own =
     (subst (λ b. AllowsTake cfg H k b given) same_inc allows)) is))
 taken_by_slot cfg H h inc k i given allows is false other =
     let same : taken h inc (RepliesTaken k i given ∷ H) ≡ taken h inc H =
-        ap (λ so. if so then taken h inc H ++ handed_out given else taken h inc H) other in
+    ap (λ so. if so then taken h inc H ++ handed_out given else taken h inc H) other in
     record {
       taken_few = rw same is.taken_few;
       few = λ has. rw same (is.few has);
@@ -334,11 +334,11 @@ started_by_slot cfg H h inc k now own run counts is true same =
 started_by_slot cfg H h inc k now own run counts is false other =
     let entry = SpawnAsked k now (spawn.Go own run) in
     let same_starts : starts_counted h (entry ∷ H) ≡ starts_counted h H =
-        ap (λ so. if so then starts_counted h H + 1 else starts_counted h H) other in
+    ap (λ so. if so then starts_counted h H + 1 else starts_counted h H) other in
     let same_queue : has_queue cfg h inc (entry ∷ H) ≡ has_queue cfg h inc H =
-        ap (λ so. if so then own == inc else has_queue cfg h inc H) other in
+    ap (λ so. if so then own == inc else has_queue cfg h inc H) other in
     let same_child : child cfg h (entry ∷ H) ≡ child cfg h H =
-        ap (λ so. if so then Running own else child cfg h H) other in
+    ap (λ so. if so then Running own else child cfg h H) other in
     record {
       taken_few = is.taken_few;
       few = λ has. is.few (sym same_queue ∙ has);

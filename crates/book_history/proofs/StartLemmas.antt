@@ -50,9 +50,9 @@ process_start cfg H h now inc run (Some process) e =
     let absent = second_is (is_present (child cfg h H)) _ _ _ (λ r. cc) e in
     let goes = second_is (gives_up cfg H h now process) _ _ _ (λ r. cc) absent.1 in
     let one = neither (is_given_up cfg h H || not (nat_lt (in_window (starts cfg h H) now) max_starts)
-        || is_spent process (starts cfg h H)) (starts_counted h H == max_incarnations) goes.0 in
+    || is_spent process (starts cfg h H)) (starts_counted h H == max_incarnations) goes.0 in
     let two = neither (is_given_up cfg h H || not (nat_lt (in_window (starts cfg h H) now) max_starts))
-        (is_spent process (starts cfg h H)) one.0 in
+    (is_spent process (starts cfg h H)) one.0 in
     let three = neither (is_given_up cfg h H) (not (nat_lt (in_window (starts cfg h H) now) max_starts)) two.0 in
     record {
       inc_is = sym (ap inc_of goes.1);
@@ -87,11 +87,11 @@ starts_are_few cfg H h now inc run legal =
     let ms = starts cfg h H in
     let within : ℕ → ℕ → Bool = λ from m. nat_lt (from - m) window_ms in
     let own : starts cfg h (SpawnAsked h now (spawn.Go inc run) ∷ H) ≡ raised now ms ∷ ms =
-        ap (λ so. if so then raised now ms ∷ ms else ms) (eq-eqb h h refl) in
+    ap (λ so. if so then raised now ms ∷ ms else ms) (eq-eqb h h refl) in
     let more : in_window (raised now ms ∷ ms) now
-        ≡ cond (within (raised now ms) (raised now ms)) 1 0 + count_by (within (raised now ms)) ms =
-        ap (λ from. count_by (within from) (raised now ms ∷ ms)) (raised_again now ms)
-        ∙ sum_by-cons (λ m. cond (within (raised now ms) m) 1 0) (raised now ms) ms in
+    ≡ cond (within (raised now ms) (raised now ms)) 1 0 + count_by (within (raised now ms)) ms =
+    ap (λ from. count_by (within from) (raised now ms ∷ ms)) (raised_again now ms)
+    ∙ sum_by-cons (λ m. cond (within (raised now ms) m) 1 0) (raised now ms) ms in
     let one = one_or_none (within (raised now ms) (raised now ms)) in
     let at_most : in_window (raised now ms ∷ ms) now ≤ max_starts = omega (arith, more, one, few) in
     subst (λ moments. in_window moments now ≤ max_starts) (sym own) at_most

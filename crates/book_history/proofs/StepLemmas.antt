@@ -173,7 +173,8 @@ module _ (cfg : Sections) (n : ℕ) where
   steps_legal (RefreshAsked m family ∷ H) l =
       in_slot_legal (m == n) H (Refreshed family) (steps_legal H l.1) (steps_legal H l.1)
   steps_legal (MessageCut m bytes given ∷ H) l =
-      cut_legal (m == n) H (answer_of bytes given) (λ e. subst (λ j. MayAnswer (steps_of cfg j H) (answer_of bytes given))
+      cut_legal (m == n) H (answer_of bytes given)
+      (λ e. subst (λ j. MayAnswer (steps_of cfg j H) (answer_of bytes given))
       (eqb-true m n e) l.0) (steps_legal H l.1)
   steps_legal (Reloaded new reload.Ok ∷ H) l =
       legal_quiet (exchanged (neighbor_at cfg H n) (neighbor_at cfg (Reloaded new reload.Ok ∷ H) n)) (told H)

@@ -31,7 +31,8 @@ leaves cfg H new h = stays (process_at cfg H h) (process_at cfg (Reloaded new re
 -- how often the slot's helpers were started
 abbrev pub starts_counted : ℕ → History → ℕ
 starts_counted h [] = 0
-starts_counted h (SpawnAsked k now (spawn.Go inc run) ∷ H) = if k == h then starts_counted h H + 1 else starts_counted h H
+starts_counted h (SpawnAsked k now (spawn.Go inc run) ∷ H) =
+    if k == h then starts_counted h H + 1 else starts_counted h H
 starts_counted h (_ ∷ H) = starts_counted h H
 
 -- the incarnation of the last start; 0, which names none, before the first

@@ -46,7 +46,8 @@ refusal _ = reply.Error
 abbrev pub reply_if : Bool → Reply → List Reply
 reply_if on given = if on then given ∷ [] else []
 
--- the replies to a line that is done: the routes that it asks for, and then one where replies are on or it turns them on
+-- the replies to a line that is done: the routes that it asks for, and then one where replies are on, or where it turns
+-- them on
 abbrev pub done_replies : Sections → History → ℕ → ℕ → Command → List Reply
 done_replies cfg H h inc command.EnableAck = reply.Done ∷ []
 done_replies cfg H h inc given = map (λ s. reply.Route s) (shown cfg H h given) ++ reply_if (acks h inc H) reply.Done

@@ -51,7 +51,8 @@ shown_as settings key route = record {
 abbrev pub shown_of : Option Block → List Step → Option Settings → List Shown
 shown_of within steps None = []
 shown_of within steps (Some settings) = flat_map (λ key.
-    option_to_list (option_map (shown_as settings key) (want steps key))) (filter (is_within within) (wanted_keys steps))
+    option_to_list (option_map (shown_as settings key) (want steps key)))
+    (filter (is_within within) (wanted_keys steps))
 
 -- the routes of the neighbours that a command selects, slot by slot
 abbrev pub shown_by : Sections → History → ℕ → Command → Option Block → List Shown

@@ -56,10 +56,7 @@ pub enum Spawn {
     /// The slot's process was started too often, or isn't to be started again.
     GiveUp,
     /// It is to be started by these words, joined by zero bytes, as this incarnation.
-    Go {
-        inc: u64,
-        run: ArrayVec<u8, 1024>,
-    },
+    Go { inc: u64, run: ArrayVec<u8, 1024> },
 }
 
 /// Which neighbour is in a slot.
