@@ -13,8 +13,8 @@ use Rattle.peer_history.specs.Steps.{Step, Answer}
 use Rattle.peer_history.specs.Steps.Step.{Cut}
 use Rattle.peer_history.specs.Steps as step
 use Rattle.peer_history.specs.Table.{view}
-use Rattle.book_history.specs.declared.answers.Cut.{Cut as Cutting}
-use Rattle.book_history.specs.declared.answers.Cut.TheVariants as cut
+use Rattle.book_history.specs.declared.outcomes.Cut.{Cut as Cutting}
+use Rattle.book_history.specs.declared.outcomes.Cut.TheVariants as cut
 use Rattle.book_history.specs.Entries.{History}
 use Rattle.book_history.specs.Entries.Entry.{MessageCut}
 use Rattle.book_history.specs.Headline.{WholeBatches, NothingPending}

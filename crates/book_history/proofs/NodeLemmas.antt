@@ -16,9 +16,9 @@ use Rattle.peer_history.specs.Nodes.{is_node}
 use Rattle.peer_history.specs.Ordered.{asked_for, in_order, node_keys}
 use Rattle.peer_history.specs.Steps.{Step}
 use Rattle.peer_history.specs.Steps as step
-use Rattle.book_history.specs.declared.answers.Cut.{Cut}
-use Rattle.book_history.specs.declared.answers.Up.{Up}
-use Rattle.book_history.specs.declared.answers.Up.TheVariants as up
+use Rattle.book_history.specs.declared.outcomes.Cut.{Cut}
+use Rattle.book_history.specs.declared.outcomes.Up.{Up}
+use Rattle.book_history.specs.declared.outcomes.Up.TheVariants as up
 use Rattle.book_history.specs.Bounds.{peer_numbers}
 use Rattle.book_history.specs.Entries.{Entry, History}
 use Rattle.book_history.specs.Entries.Entry.{CameUp, WentDown, RefreshAsked, MessageCut}

@@ -9,8 +9,8 @@ use Rattle.std.proofs.lemmas.List.Sums.{sum_by-cons}
 use Rattle.arrayvec.specs.ArrayVec.{ArrayVec}
 use Rattle.config_model.specs.declared.sections.Process.{Process}
 use Rattle.config_model.specs.Sections.{Sections}
-use Rattle.book_history.specs.declared.answers.Spawn.{Spawn}
-use Rattle.book_history.specs.declared.answers.Spawn.TheVariants as spawn
+use Rattle.book_history.specs.declared.outcomes.Spawn.{Spawn}
+use Rattle.book_history.specs.declared.outcomes.Spawn.TheVariants as spawn
 use Rattle.book_history.specs.Bounds.{max_incarnations, max_starts, window_ms}
 use Rattle.book_history.specs.Entries.{History}
 use Rattle.book_history.specs.Entries.Entry.{SpawnAsked}

@@ -18,11 +18,11 @@ use Rattle.peer_history.specs.Steps.{Step, Answer}
 use Rattle.peer_history.specs.Steps.Step.{Announced, Withdrawn, Cleared, Placed, Kept, Vacated, Up, Down, Ended}
 use Rattle.peer_history.specs.Steps.Step.{Refreshed, Cut}
 use Rattle.peer_history.specs.Steps as step
-use Rattle.book_history.specs.declared.answers.Cut.{Cut as Cutting}
-use Rattle.book_history.specs.declared.answers.Cut.TheVariants as cut
-use Rattle.book_history.specs.declared.answers.Reload.TheVariants as reload
-use Rattle.book_history.specs.declared.answers.Up.TheVariants as up
-use Rattle.book_history.specs.declared.answers.Verdict.TheVariants as verdict
+use Rattle.book_history.specs.declared.outcomes.Cut.{Cut as Cutting}
+use Rattle.book_history.specs.declared.outcomes.Cut.TheVariants as cut
+use Rattle.book_history.specs.declared.outcomes.Reload.TheVariants as reload
+use Rattle.book_history.specs.declared.outcomes.Up.TheVariants as up
+use Rattle.book_history.specs.declared.outcomes.Verdict.TheVariants as verdict
 use Rattle.book_history.specs.Entries.{Entry, History}
 use Rattle.book_history.specs.Entries.Entry.{LineEntered, CameUp, WentDown, RefreshAsked, MessageCut, Reloaded, Stopped}
 use Rattle.book_history.specs.Legal.{IsLegal}

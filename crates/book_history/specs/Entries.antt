@@ -7,15 +7,15 @@ use Rattle.text_forms.specs.Lines.{Line}
 use Rattle.route_grammar.specs.declared.fault.ReadFault.{ReadFault}
 use Rattle.command_grammar.specs.declared.command.Command.{Command}
 use Rattle.config_model.specs.Sections.{Sections}
-use Rattle.book_history.specs.declared.answers.Control.{Control}
-use Rattle.book_history.specs.declared.answers.Cut.{Cut}
-use Rattle.book_history.specs.declared.answers.NotRead.{NotRead}
-use Rattle.book_history.specs.declared.answers.Peer.{Peer}
-use Rattle.book_history.specs.declared.answers.Reload.{Reload}
-use Rattle.book_history.specs.declared.answers.Spawn.{Spawn}
-use Rattle.book_history.specs.declared.answers.Take.{Take}
-use Rattle.book_history.specs.declared.answers.Up.{Up}
-use Rattle.book_history.specs.declared.answers.Verdict.{Verdict}
+use Rattle.book_history.specs.declared.outcomes.Control.{Control}
+use Rattle.book_history.specs.declared.outcomes.Cut.{Cut}
+use Rattle.book_history.specs.declared.outcomes.NotRead.{NotRead}
+use Rattle.book_history.specs.declared.outcomes.Peer.{Peer}
+use Rattle.book_history.specs.declared.outcomes.Reload.{Reload}
+use Rattle.book_history.specs.declared.outcomes.Spawn.{Spawn}
+use Rattle.book_history.specs.declared.outcomes.Take.{Take}
+use Rattle.book_history.specs.declared.outcomes.Up.{Up}
+use Rattle.book_history.specs.declared.outcomes.Verdict.{Verdict}
 
 pub data Entry : Type 0 where
   -- slot and incarnation of a helper, its line, and what the line was read as

@@ -9,9 +9,9 @@ use Rattle.config_model.specs.Sections.{Sections}
 use Rattle.peer_history.specs.Batches.{batch, is_owed, is_marker_owed}
 use Rattle.peer_history.specs.Keys.{times_named}
 use Rattle.peer_history.specs.Messages.{said_each, mentions, times_marked}
-use Rattle.book_history.specs.declared.answers.Cut.{Cut}
-use Rattle.book_history.specs.declared.answers.Cut.TheVariants as cut
-use Rattle.book_history.specs.declared.answers.Up.{Up}
+use Rattle.book_history.specs.declared.outcomes.Cut.{Cut}
+use Rattle.book_history.specs.declared.outcomes.Cut.TheVariants as cut
+use Rattle.book_history.specs.declared.outcomes.Up.{Up}
 use Rattle.book_history.specs.Entries.{Entry, History}
 use Rattle.book_history.specs.Entries.Entry.{CameUp, WentDown, RefreshAsked, MessageCut}
 use Rattle.book_history.specs.Legal.{IsLegal}

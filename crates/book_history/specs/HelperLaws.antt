@@ -2,7 +2,7 @@
 use Rattle.std.specs.Prelude.{ℕ, ◌≡◌, ◌+◌, ◌≤◌, List, ◌∷◌, length}
 use Rattle.arrayvec.specs.ArrayVec.{ArrayVec}
 use Rattle.config_model.specs.Sections.{Sections}
-use Rattle.book_history.specs.declared.answers.Spawn.TheVariants as spawn
+use Rattle.book_history.specs.declared.outcomes.Spawn.TheVariants as spawn
 use Rattle.book_history.specs.Bounds.{max_queued, max_starts}
 use Rattle.book_history.specs.Entries.{History}
 use Rattle.book_history.specs.Entries.Entry.{SpawnAsked}

@@ -5,8 +5,8 @@ use Rattle.std.specs.Bool.{beq}
 use Rattle.std.specs.List.{count_by}
 use Rattle.config_model.specs.declared.sections.Process.{Process}
 use Rattle.config_model.specs.Sections.{Sections, same_name}
-use Rattle.book_history.specs.declared.answers.Reload.TheVariants as reload
-use Rattle.book_history.specs.declared.answers.Spawn.TheVariants as spawn
+use Rattle.book_history.specs.declared.outcomes.Reload.TheVariants as reload
+use Rattle.book_history.specs.declared.outcomes.Spawn.TheVariants as spawn
 use Rattle.book_history.specs.Bounds.{window_ms}
 use Rattle.book_history.specs.Entries.{History}
 use Rattle.book_history.specs.Entries.Entry.{HelperDeaf, HelperGone, SpawnAsked, Reloaded}

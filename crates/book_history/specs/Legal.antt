@@ -12,22 +12,22 @@ use Rattle.config_model.specs.declared.sections.Process.{Process}
 use Rattle.config_model.specs.Plan.{same_settings}
 use Rattle.config_model.specs.Sections.{Sections}
 use Rattle.peer_history.specs.Cuts.{MayAnswer}
-use Rattle.book_history.specs.declared.answers.Control.{Control}
-use Rattle.book_history.specs.declared.answers.Control.TheVariants as control
-use Rattle.book_history.specs.declared.answers.Cut.{Cut}
-use Rattle.book_history.specs.declared.answers.Peer.{Peer}
-use Rattle.book_history.specs.declared.answers.Peer.TheVariants as peer
-use Rattle.book_history.specs.declared.answers.Reload.{Reload}
-use Rattle.book_history.specs.declared.answers.Reload.TheVariants as reload
-use Rattle.book_history.specs.declared.answers.Spawn.{Spawn}
-use Rattle.book_history.specs.declared.answers.Spawn.TheVariants as spawn
-use Rattle.book_history.specs.declared.answers.Take.{Take}
-use Rattle.book_history.specs.declared.answers.Take.TheVariants as take
-use Rattle.book_history.specs.declared.answers.Up.{Up}
-use Rattle.book_history.specs.declared.answers.Up.TheVariants as up
-use Rattle.book_history.specs.declared.answers.Verdict.{Verdict}
-use Rattle.book_history.specs.declared.answers.Verdict.TheVariants as verdict
-use Rattle.book_history.specs.declared.answers.Why.TheVariants as why
+use Rattle.book_history.specs.declared.outcomes.Control.{Control}
+use Rattle.book_history.specs.declared.outcomes.Control.TheVariants as control
+use Rattle.book_history.specs.declared.outcomes.Cut.{Cut}
+use Rattle.book_history.specs.declared.outcomes.Peer.{Peer}
+use Rattle.book_history.specs.declared.outcomes.Peer.TheVariants as peer
+use Rattle.book_history.specs.declared.outcomes.Reload.{Reload}
+use Rattle.book_history.specs.declared.outcomes.Reload.TheVariants as reload
+use Rattle.book_history.specs.declared.outcomes.Spawn.{Spawn}
+use Rattle.book_history.specs.declared.outcomes.Spawn.TheVariants as spawn
+use Rattle.book_history.specs.declared.outcomes.Take.{Take}
+use Rattle.book_history.specs.declared.outcomes.Take.TheVariants as take
+use Rattle.book_history.specs.declared.outcomes.Up.{Up}
+use Rattle.book_history.specs.declared.outcomes.Up.TheVariants as up
+use Rattle.book_history.specs.declared.outcomes.Verdict.{Verdict}
+use Rattle.book_history.specs.declared.outcomes.Verdict.TheVariants as verdict
+use Rattle.book_history.specs.declared.outcomes.Why.TheVariants as why
 use Rattle.book_history.specs.Bounds.{max_incarnations, max_nodes, max_starts, max_taken}
 use Rattle.book_history.specs.Entries.{Entry, History}
 use Rattle.book_history.specs.Entries.Entry.{LineEntered, RepliesTaken, HelperDeaf, HelperGone, SpawnAsked, PeerAsked}

@@ -6,8 +6,8 @@ use Rattle.route_values.specs.Caps.{Caps}
 use Rattle.config_model.specs.Sections.{Sections}
 use Rattle.peer_history.specs.Sessions.{session, peer}
 use Rattle.peer_history.specs.Table.{Route, want, view}
-use Rattle.book_history.specs.declared.answers.Cut.TheVariants as cut
-use Rattle.book_history.specs.declared.answers.Up.TheVariants as up
+use Rattle.book_history.specs.declared.outcomes.Cut.TheVariants as cut
+use Rattle.book_history.specs.declared.outcomes.Up.TheVariants as up
 use Rattle.book_history.specs.Entries.{History}
 use Rattle.book_history.specs.Entries.Entry.{CameUp, WentDown, MessageCut}
 use Rattle.book_history.specs.PeerSteps.{steps_of}

@@ -7,14 +7,14 @@ use Rattle.ack_queue.specs.declared.reply.Reply.TheVariants as reply
 use Rattle.command_grammar.specs.declared.command.Command.{Command}
 use Rattle.command_grammar.specs.declared.command.Command.TheVariants as command
 use Rattle.config_model.specs.Sections.{Sections}
-use Rattle.book_history.specs.declared.answers.Reload.TheVariants as reload
-use Rattle.book_history.specs.declared.answers.Spawn.TheVariants as spawn
-use Rattle.book_history.specs.declared.answers.Take.{Take}
-use Rattle.book_history.specs.declared.answers.Take.TheVariants as take
-use Rattle.book_history.specs.declared.answers.Verdict.{Verdict}
-use Rattle.book_history.specs.declared.answers.Verdict.TheVariants as verdict
-use Rattle.book_history.specs.declared.answers.Why.{Why}
-use Rattle.book_history.specs.declared.answers.Why.TheVariants as why
+use Rattle.book_history.specs.declared.outcomes.Reload.TheVariants as reload
+use Rattle.book_history.specs.declared.outcomes.Spawn.TheVariants as spawn
+use Rattle.book_history.specs.declared.outcomes.Take.{Take}
+use Rattle.book_history.specs.declared.outcomes.Take.TheVariants as take
+use Rattle.book_history.specs.declared.outcomes.Verdict.{Verdict}
+use Rattle.book_history.specs.declared.outcomes.Verdict.TheVariants as verdict
+use Rattle.book_history.specs.declared.outcomes.Why.{Why}
+use Rattle.book_history.specs.declared.outcomes.Why.TheVariants as why
 use Rattle.book_history.specs.Entries.{History}
 use Rattle.book_history.specs.Entries.Entry.{LineEntered, RepliesTaken, HelperDeaf, SpawnAsked, Reloaded}
 use Rattle.book_history.specs.Helpers.{leaves}

@@ -6,7 +6,7 @@ use Rattle.route_values.specs.Key.{same_addr}
 use Rattle.config_model.specs.declared.sections.Neighbor.{Neighbor}
 use Rattle.config_model.specs.declared.sections.Process.{Process}
 use Rattle.config_model.specs.Sections.{Sections, same_name}
-use Rattle.book_history.specs.declared.answers.Reload.TheVariants as reload
+use Rattle.book_history.specs.declared.outcomes.Reload.TheVariants as reload
 use Rattle.book_history.specs.Entries.{History}
 use Rattle.book_history.specs.Entries.Entry.{Reloaded}
 

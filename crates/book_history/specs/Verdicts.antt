@@ -9,9 +9,9 @@ use Rattle.route_grammar.specs.declared.fault.ReadFault.TheVariants as read
 use Rattle.command_grammar.specs.declared.command.Command.{Command}
 use Rattle.command_grammar.specs.declared.command.Command.TheVariants as command
 use Rattle.config_model.specs.Sections.{Sections}
-use Rattle.book_history.specs.declared.answers.Verdict.{Verdict}
-use Rattle.book_history.specs.declared.answers.Verdict.TheVariants.{Ended, Busy, Error, Done}
-use Rattle.book_history.specs.declared.answers.Why.TheVariants as why
+use Rattle.book_history.specs.declared.outcomes.Verdict.{Verdict}
+use Rattle.book_history.specs.declared.outcomes.Verdict.TheVariants.{Ended, Busy, Error, Done}
+use Rattle.book_history.specs.declared.outcomes.Why.TheVariants as why
 use Rattle.book_history.specs.Bounds.{max_nodes, max_queued, max_shown, peer_numbers}
 use Rattle.book_history.specs.Entries.{History}
 use Rattle.book_history.specs.Entries.Entry.{LineEntered, Stopped}

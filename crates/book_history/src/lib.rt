@@ -6,8 +6,8 @@
 //! the types are the answers of events, and each function is empty, with a law of the definitions as its contract.
 #![tactic(auto)]
 
-mod answers;
 mod laws;
+mod outcomes;
 
-pub use answers::{Control, Cut, NotRead, Peer, Reload, Spawn, Take, Up, Verdict, Why};
 pub use laws::{helpers_are_bounded, nodes_stay, nothing_pending, whole_batches};
+pub use outcomes::{Control, Cut, NotRead, Peer, Reload, Spawn, Take, Up, Verdict, Why};
