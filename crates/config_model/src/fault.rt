@@ -94,3 +94,21 @@ impl ConfigKind {
         }
     }
 }
+
+#[test]
+fn each_kind_of_fault_has_a_number_and_a_word(rt: HostRuntime) {
+    let table = [
+        (ConfigKind::Token, 1, "token"),
+        (ConfigKind::Twice, 2, "twice"),
+        (ConfigKind::Missing, 3, "missing"),
+        (ConfigKind::Family, 4, "family"),
+        (ConfigKind::Many, 5, "many"),
+        (ConfigKind::Process, 6, "process"),
+        (ConfigKind::Long, 7, "long"),
+        (ConfigKind::NoProcess, 8, "no-process"),
+    ];
+    'kinds: for (kind, number, word) in table {
+        assert_eq!(rt; kind.number(), number, "{word}");
+        assert_eq!(rt; kind.word(), word);
+    }
+}

@@ -6,8 +6,6 @@ ghost use Rattle.route_values.specs.Addr.{family_of};
 ghost use Rattle.route_values.specs.Key.{same_key};
 ghost use Rattle.config_model.specs.Drafts.{IsNeighbor, IsRoute};
 
-mod faults;
-
 use super::*;
 use arrayvec::ArrayVec;
 use route_values::{Addr, Attrs, Family, Hop, Items, Key, NoMemory, Pick, Prefix, Selector};
@@ -31,6 +29,8 @@ const NET: u32 = 0xC633_6400;
 const ANNOUNCER: &[u8] = b"announcer";
 
 const CHECKER: &[u8] = b"checker";
+
+const OTHER: &[u8] = b"check";
 
 // A value that a call has found memory for.
 fn found<T: Drop>(answer: Result<T, NoMemory>) -> Result<T, Fail> {
@@ -135,6 +135,24 @@ fn neighbor(
     })
 }
 
+// The same, or that a test finds no memory.
+fn section(
+    alloc: Global,
+    settings: Settings,
+    hears: &[&[u8]],
+    prefix: Prefix,
+    count: u32,
+) -> Result<Neighbor, Fail>
+    requires net { family_of prefix.addr ≡ Ipv4 }
+    requires ends { (family_of settings.peer ≡ Ipv4) × (family_of settings.local ≡ Ipv4) }
+    ensures { IfOk result (λ section. IsNeighbor section) }
+{
+    match neighbor(alloc, settings, hears, prefix, count) {
+        Ok(section) => Ok(section),
+        Err(NoMemory) => Err(Fail::from("no memory")),
+    }
+}
+
 // Puts a process into a draft that has room for it.
 fn run(draft: &mut Draft, process: Process) -> Result<(), Fail> {
     let is_new = place_of_process(draft.processes(), process.name.as_slice()).is_none();
@@ -172,10 +190,10 @@ fn config(alloc: Global) -> Result<Config, Fail> {
     run(&mut draft, process(ANNOUNCER))?;
     run(&mut draft, process(CHECKER))?;
     let both = [ANNOUNCER, CHECKER];
-    let first = neighbor(alloc, settings(FIRST, 65002), &both, prefix, 1);
-    add(&mut draft, found(first)?)?;
-    let second = neighbor(alloc, settings(SECOND, 65001), &[ANNOUNCER], prefix, 0);
-    add(&mut draft, found(second)?)?;
+    let first = section(alloc, settings(FIRST, 65002), &both, prefix, 1)?;
+    add(&mut draft, first)?;
+    let second = section(alloc, settings(SECOND, 65001), &[ANNOUNCER], prefix, 0)?;
+    add(&mut draft, second)?;
     finished(draft)
 }
 
@@ -188,7 +206,7 @@ fn timed(alloc: Global, sections: &[(u32, u16)]) -> Result<Config, Fail> {
             hold: *hold,
             ..settings(*peer, 65002)
         };
-        add(&mut draft, found(neighbor(alloc, timed, &[], prefix, 0))?)?;
+        add(&mut draft, section(alloc, timed, &[], prefix, 0)?)?;
     }
     finished(draft)
 }
@@ -207,11 +225,7 @@ fn pick(peer: u32, peer_as: Option<u32>) -> Pick {
 #[test]
 fn sections_are_found_by_name_and_address(rt: HostRuntime) -> Result<(), Fail> {
     let config = config(rt.alloc())?;
-    let names = [
-        (ANNOUNCER, Some(0)),
-        (CHECKER, Some(1)),
-        (&b"check"[..], None),
-    ];
+    let names = [(ANNOUNCER, Some(0)), (CHECKER, Some(1)), (OTHER, None)];
     'names: for (name, wanted) in names {
         assert_eq!(rt;
             place_of_process(config.processes(), name),
@@ -243,53 +257,22 @@ fn a_command_is_for_the_picked_neighbours_that_hear_its_process(
 ) -> Result<(), Fail> {
     let config = config(rt.alloc())?;
     let second = Some(pick(SECOND, None));
+    let its_as = Some(pick(FIRST, Some(65002)));
+    let other_as = Some(pick(FIRST, Some(65001)));
+    let (ipv4, ipv6) = (Some(Family::Ipv4), Some(Family::Ipv6));
     let table = [
         ("no pick", ANNOUNCER, None, None, 0, true),
         ("no pick, the second", ANNOUNCER, None, None, 1, true),
         ("past the last one", ANNOUNCER, None, None, 2, false),
-        (
-            "a process that it doesn't hear",
-            CHECKER,
-            None,
-            None,
-            1,
-            false,
-        ),
-        ("no process", CHECKER, None, None, 0, true),
+        ("another process", CHECKER, None, None, 0, true),
+        ("a process not heard", CHECKER, None, None, 1, false),
+        ("a process unknown", OTHER, None, None, 0, false),
         ("its address", ANNOUNCER, second, None, 1, true),
         ("another address", ANNOUNCER, second, None, 0, false),
-        (
-            "its AS",
-            ANNOUNCER,
-            Some(pick(FIRST, Some(65002))),
-            None,
-            0,
-            true,
-        ),
-        (
-            "another AS",
-            ANNOUNCER,
-            Some(pick(FIRST, Some(65001))),
-            None,
-            0,
-            false,
-        ),
-        (
-            "self in its family",
-            ANNOUNCER,
-            None,
-            Some(Family::Ipv4),
-            0,
-            true,
-        ),
-        (
-            "self in another one",
-            ANNOUNCER,
-            None,
-            Some(Family::Ipv6),
-            0,
-            false,
-        ),
+        ("its AS", ANNOUNCER, its_as, None, 0, true),
+        ("another AS", ANNOUNCER, other_as, None, 0, false),
+        ("self in its family", ANNOUNCER, None, ipv4, 0, true),
+        ("self in another", ANNOUNCER, None, ipv6, 0, false),
     ];
     'cases: for (case, process, written, family, n, wanted) in table {
         let mut selector: Selector = Items::new(rt.alloc());
@@ -302,6 +285,23 @@ fn a_command_is_for_the_picked_neighbours_that_hear_its_process(
             "{case}"
         );
     }
+    Ok(())
+}
+
+#[test]
+fn a_process_without_a_section_is_refused(rt: HostRuntime) -> Result<(), Fail> {
+    let mut draft = Draft::new(rt.alloc());
+    run(&mut draft, process(ANNOUNCER))?;
+    let both = [ANNOUNCER, CHECKER];
+    let section = section(rt.alloc(), settings(FIRST, 65002), &both, net()?, 0)?;
+    add(&mut draft, section)?;
+    assert_eq!(rt; draft.unknown().map(|name| name.as_slice()), Some(CHECKER));
+    let fault = ConfigFault {
+        line: 0,
+        column: 0,
+        kind: ConfigKind::Process,
+    };
+    assert_eq!(rt; check(draft).err(), Some(fault));
     Ok(())
 }
 
@@ -325,10 +325,11 @@ fn a_reload_keeps_equal_settings_and_resets_others(rt: HostRuntime) -> Result<()
 #[test]
 fn a_hundred_thousand_static_routes_find_memory(rt: HostRuntime) -> Result<(), Fail> {
     let settings = settings(FIRST, 65002);
-    let section = found(neighbor(rt.alloc(), settings, &[], net()?, 100_000))?;
+    let section = section(rt.alloc(), settings, &[], net()?, 100_000)?;
     let copied = found(section.copy(rt.alloc()))?;
+    assert_eq!(rt; copied.statics.len(), 100_000);
     let mut draft = Draft::new(rt.alloc());
-    add(&mut draft, copied)?;
+    add(&mut draft, section)?;
     assert_eq!(rt; draft.routes(), 100_000);
     Ok(())
 }
