@@ -1,6 +1,8 @@
 -- A reader along readings with no sign around them: the tokens from the first one on, those that are left, and the
 -- values so far.
-use Rattle.std.proofs.Common.{◌≡◌, true, false, List, [], ◌∷◌, ◌++◌, Option, None, sym, refl, subst}
+use Rattle.std.proofs.Common.{◌≡◌, ◌<◌, true, false, List, [], ◌∷◌, ◌++◌, Option, None, ap, arith, length, sym, ◌∙◌}
+use Rattle.std.proofs.Common.{length-append, refl, subst}
+use Rattle.std.proofs.lemmas.Bool.{false≢true}
 use Rattle.token_reader.specs.Tokens.{Token, Placed, front_token}
 use Rattle.route_grammar.specs.Limits.{Counted, Limits}
 use Rattle.route_grammar.specs.Productions.{Production, Further, nothing_further, front, IsFault, Row}
@@ -10,6 +12,15 @@ use Rattle.route_grammar.proofs.AnsweredLemmas.{tokens_append, lead_of, both_bef
 use Rattle.route_grammar.proofs.RepeatedLemmas.{Starts, AreSoFar, none_so_far, one_so_far}
 use Rattle.route_grammar.proofs.InsideLemmas.{IsNext}
 use Rattle.route_grammar.proofs.RowLemmas.{row_read, row_stops, row_fault}
+
+-- a reading that begins with a token takes one away
+pub reads_shorter : {V : Type 0} (R : Production V) (starts : Further) (limits : Limits) (tokens left : List Placed)
+    (value : V) → Starts R starts → starts None ≡ false → Reads R nothing_further limits tokens left value
+    → length left < length tokens
+reads_shorter R starts limits tokens left value begin ends ([], is, read) =
+    absurd (false≢true (sym ends ∙ begin limits [] [] value read.found))
+reads_shorter R starts limits tokens left value begin ends (first ∷ before, is, read) =
+    omega (arith, ap length is, length-append before left)
 
 pub record IsAlong {V : Type 0} (R : Production V) (starts : Further) (limits : Limits) (tokens left : List Placed)
     (values : List V) : Type 0 where

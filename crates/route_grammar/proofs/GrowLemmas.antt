@@ -5,12 +5,13 @@ use Rattle.route_values.specs.declared.addr.Family.{Family}
 use Rattle.route_grammar.specs.declared.kind.Kind.{Kind}
 use Rattle.route_grammar.specs.declared.kind.Kind.TheVariants as kind
 use Rattle.route_grammar.specs.declared.items.Item.TheVariants as item
+use Rattle.route_grammar.specs.declared.path.Part.TheVariants.{Number, Set}
 use Rattle.route_grammar.specs.Limits.{Counted, Numbers, Limits, raised}
 use Rattle.route_grammar.specs.Limits as counted
 use Rattle.route_grammar.specs.Productions.{Production, OneWord, Then, Saying, Either, Bracketed}
 use Rattle.route_grammar.specs.Numbers.{IsNumber, IsPathId, IsHop, IsOrigin}
 use Rattle.route_grammar.specs.Communities.{IsCommunity, IsExtended, IsLarge, IsAggregator}
-use Rattle.route_grammar.specs.Lists.{ListOf, AreFew, single, AloneOrIn, Number, Set, IsSet, SetBehind, OnePart}
+use Rattle.route_grammar.specs.Lists.{ListOf, AreFew, single, AloneOrIn, IsSet, SetBehind, OnePart}
 use Rattle.route_grammar.specs.Lists.{AreFewNumbers, OnePath, joined, onto, opening_bracket, closing_bracket}
 use Rattle.route_grammar.specs.Lists.{opening_paren, closing_paren}
 use Rattle.route_grammar.specs.Items.{Operand, OneItem, ReadsItems, IsKeyword}

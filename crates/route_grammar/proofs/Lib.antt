@@ -9,5 +9,13 @@ pub mod RowLemmas
 pub mod AlongLemmas
 pub mod GrowLemmas
 pub mod ItemLemmas
+pub mod MarkLemmas
 pub mod OperandLemmas
+pub mod OperandReadLemmas
+pub mod ReadingLemmas
+pub mod TextLemmas
+pub mod ValueLemmas
+pub mod ExtendedLemmas
 pub mod PathLemmas
+pub mod PartLemmas
+pub mod SetLemmas

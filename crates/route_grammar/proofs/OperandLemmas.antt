@@ -8,8 +8,8 @@ use Rattle.route_grammar.specs.declared.kind.Kind.{Kind}
 use Rattle.route_grammar.specs.declared.kind.Kind.TheVariants as kind
 use Rattle.route_grammar.specs.declared.items.Item.{Item}
 use Rattle.route_grammar.specs.Limits.{Limits}
-use Rattle.route_grammar.specs.Productions.{Production, front, OneToken, Then}
-use Rattle.route_grammar.specs.Items.{keyword, Operand, OneItem, AllDiffer, AreDifferent, is_among, kind_of}
+use Rattle.route_grammar.specs.Productions.{front}
+use Rattle.route_grammar.specs.Items.{keyword, ItemOf, Operand, OneItem, AllDiffer, AreDifferent, is_among, kind_of}
 use Rattle.route_grammar.specs.Items.{items_further}
 use Rattle.route_grammar.proofs.RepeatedLemmas.{Starts}
 use Rattle.route_grammar.proofs.InsideLemmas.{IsNext}
@@ -62,15 +62,11 @@ operand_kind family kind.Extended limits tokens said read = ap kind_of read.1
 operand_kind family kind.Large limits tokens said read = ap kind_of read.1
 operand_kind family kind.PathId limits tokens said read = ap kind_of read.1
 
--- an item that begins with the word of a kind
-abbrev pub ItemOf : Option Family → Kind → Production Item
-ItemOf family one = Then (OneToken (Word (keyword one))) (λ tt_value. Operand family one)
-
 word_same : (one other : List ℕ) → Some (Word one) ≡ Some (Word other) → one ≡ other
 word_same one other same = cc
 
 -- an item's kind is that of its first word
-lead_kind : (family : Option Family) (one : Kind) (held : Limits) (text others : List Token) (said : Item)
+pub lead_kind : (family : Option Family) (one : Kind) (held : Limits) (text others : List Token) (said : Item)
     (read : OneItem family held text said) → front (text ++ others) ≡ Some (Word (keyword one)) → read.0 ≡ one
 lead_kind family one held text others said read at =
     let text_is : text ≡ Word read.4.0 ∷ read.2 =
@@ -100,7 +96,7 @@ item_is_next family one limits items differ unseen = record {
       );
 }
 
-starts_keyword : (one : Kind) → items_further (Some (Word (keyword one))) ≡ true
+pub starts_keyword : (one : Kind) → items_further (Some (Word (keyword one))) ≡ true
 starts_keyword kind.NextHop = refl
 starts_keyword kind.Origin = refl
 starts_keyword kind.Path = refl

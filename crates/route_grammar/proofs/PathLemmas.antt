@@ -1,7 +1,7 @@
 -- Paths: numbers and sets between brackets, and the segments that they make.
 use Rattle.std.proofs.Common.{ℕ, ◌≡◌, ◌≢◌, ◌<◌, ◌≤◌, ◌+◌, ◌==◌, true, false, List, [], ◌∷◌, ◌++◌, length, Option}
 use Rattle.std.proofs.Common.{Some, None, ap, sym, ◌∙◌, refl, subst, arith, inl, inr, append-nil}
-use Rattle.std.proofs.Common.{append_assoc}
+use Rattle.std.proofs.Common.{append_assoc, Result, Ok, Err, OnOk}
 use Rattle.route_values.specs.declared.path.Segment.{Segment}
 use Rattle.route_values.specs.Path.{AllFilled}
 use Rattle.text_forms.specs.Numbers.{IsAsn}
@@ -10,7 +10,9 @@ use Rattle.route_grammar.specs.Limits.{Numbers, Limits}
 use Rattle.route_grammar.specs.Productions.{Production, Further, nothing_further, front, Bracketed}
 use Rattle.route_grammar.specs.Productions.{IsHeld}
 use Rattle.route_grammar.specs.Answered.{Faults}
-use Rattle.route_grammar.specs.Lists.{Part, Number, Set, OnePart, PartBehind, count_of, onto, joined}
+use Rattle.route_grammar.specs.declared.path.Part.{Part}
+use Rattle.route_grammar.specs.declared.path.Part.TheVariants.{Number, Set}
+use Rattle.route_grammar.specs.Lists.{OnePart, PartBehind, count_of, onto, joined, AreJoined}
 use Rattle.route_grammar.specs.Lists.{AreFewNumbers, opening_bracket, closing_bracket, lead, closed}
 use Rattle.route_grammar.proofs.LimitLemmas.{raised_one, held_one, held_at_sign}
 use Rattle.route_grammar.proofs.RepeatedLemmas.{Starts}
@@ -42,11 +44,6 @@ count_append [] more = omega arith
 count_append (Number n ∷ parts) more = omega (arith, count_append parts more)
 count_append (Set numbers ∷ parts) more = omega (arith, count_append parts more)
 
--- segments and a run that parts make so far, whatever parts follow
-pub record AreJoined (segments : List Segment) (run : List ℕ) (parts : List Part) : Type 0 where
-  pub joined_are : (more : List Part) → joined (parts ++ more) ≡ segments ++ lead run (joined more)
-  pub filled : AllFilled segments
-
 pub none_joined : AreJoined [] [] []
 none_joined = record { joined_are = λ more. refl; filled = tt }
 
@@ -59,11 +56,11 @@ number_joined segments run parts number are = record {
   filled = are.filled;
 }
 
-filled_append : (segments more : List Segment) → AllFilled segments → AllFilled more → AllFilled (segments ++ more)
+pub filled_append : (segments more : List Segment) → AllFilled segments → AllFilled more → AllFilled (segments ++ more)
 filled_append [] more first second = second
 filled_append (segment ∷ segments) more first second = (first.0, filled_append segments more first.1 second)
 
-closed_filled : (run : List ℕ) → AllFilled (closed run)
+pub closed_filled : (run : List ℕ) → AllFilled (closed run)
 closed_filled [] = tt
 closed_filled (first ∷ run) = (omega arith, tt)
 
@@ -150,7 +147,7 @@ abbrev pub InPath : Production (List Part)
 InPath = Bracketed opening_bracket closing_bracket OnePart AreFewNumbers
 
 -- a part has a number or more
-part_some : (limits : Limits) (text : List Token) (part : Part) → OnePart limits text part → 0 < count_of (part ∷ [])
+pub part_some : (limits : Limits) (text : List Token) (part : Part) → OnePart limits text part → 0 < count_of (part ∷ [])
 part_some limits text part (inl one) =
     subst (λ (read : Part). 0 < count_of (read ∷ [])) (sym one.1) (omega arith)
 part_some limits text part (inr set) =
@@ -236,3 +233,33 @@ path_many limits tokens left parts word value inside still at spelled full =
     (λ held rest next tail others part more is_held at_rest same read_next read_tail fits.
     let in_force : held Numbers ≡ limits Numbers = held_one limits held (front_token left) Numbers is_held in
     too_few held parts more next part (omega (arith, full, in_force)) read_next fits)
+
+-- WHAT A READER DREW OF PARTS
+
+pub put_number : {E : Type 0} (whole : List Segment) (run next : List ℕ) (number : ℕ) (part : Part) (parts : List Part)
+    (result : Result (Unit {0}) E) → AreJoined whole run parts → part ≡ Number number
+    → OnOk result (next ≡ run ++ number ∷ []) → OnOk result (AreJoined whole next (parts ++ part ∷ []))
+put_number whole run next number part parts (Ok done) drawn is next_is =
+    subst (λ (one : Part). AreJoined whole next (parts ++ one ∷ [])) (sym is)
+    (subst (λ (numbers : List ℕ). AreJoined whole numbers (parts ++ Number number ∷ [])) (sym next_is)
+    (number_joined whole run parts number drawn))
+put_number whole run next number part parts (Err error) drawn is next_is = tt
+
+pub put_set : {E : Type 0} (whole also : List Segment) (run next numbers : List ℕ) (part : Part) (parts : List Part)
+    (result : Result (Unit {0}) E) → AreJoined whole run parts → 0 < count_of (part ∷ []) → part ≡ Set numbers
+    → OnOk result (also ≡ (whole ++ closed run) ++ record { set = true; numbers = numbers } ∷ [])
+    → OnOk result (next ≡ []) → OnOk result (AreJoined also next (parts ++ part ∷ []))
+put_set whole also run next numbers part parts (Ok done) drawn some is also_is next_is =
+    let filled : 0 < length numbers =
+    omega (arith, some, ap (λ (one : Part). count_of (one ∷ [])) is) in
+    subst (λ (one : Part). AreJoined also next (parts ++ one ∷ [])) (sym is)
+    (subst (λ (rest : List ℕ). AreJoined also rest (parts ++ Set numbers ∷ [])) (sym next_is)
+    (subst (λ (segments : List Segment). AreJoined segments [] (parts ++ Set numbers ∷ [])) (sym also_is)
+    (set_joined whole run numbers parts filled drawn)))
+put_set whole also run next numbers part parts (Err error) drawn some is also_is next_is = tt
+
+-- nothing is drawn
+pub nothing_drawn : (whole : List Segment) (run : List ℕ) → whole ≡ [] → run ≡ [] → AreJoined whole run []
+nothing_drawn whole run whole_is run_is =
+    subst (λ (segments : List Segment). AreJoined segments run []) (sym whole_is)
+    (subst (λ (numbers : List ℕ). AreJoined [] numbers []) (sym run_is) none_joined)

@@ -13,7 +13,7 @@ use Rattle.route_grammar.specs.declared.items.Item.TheVariants as item
 use Rattle.route_grammar.specs.declared.items.Items.{Items}
 use Rattle.route_grammar.specs.Limits.{Limits}
 use Rattle.route_grammar.specs.Limits as counted
-use Rattle.route_grammar.specs.Productions.{Production, Further, OneWord, Then, Saying, Row}
+use Rattle.route_grammar.specs.Productions.{Production, Further, OneToken, OneWord, Then, Saying, Row}
 use Rattle.route_grammar.specs.Numbers.{IsNumber, IsPathId, IsHop, IsOrigin}
 use Rattle.route_grammar.specs.Communities.{IsCommunity, IsExtended, IsLarge, IsAggregator}
 use Rattle.route_grammar.specs.Lists.{ListOf, AloneOrIn, OnePath}
@@ -101,6 +101,10 @@ IsKeyword word one = word ≡ keyword one
 
 abbrev pub OneItem : Option Family → Production Item
 OneItem family = Then (OneWord IsKeyword) (Operand family)
+
+-- an item that begins with the word of a kind
+abbrev pub ItemOf : Option Family → Kind → Production Item
+ItemOf family one = Then (OneToken (Word (keyword one))) (λ word. Operand family one)
 
 -- items of which none has one of these kinds, or the kind of another one
 abbrev pub AllDiffer : List Kind → List Item → Type 0

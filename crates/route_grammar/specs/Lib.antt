@@ -5,3 +5,4 @@ pub mod Numbers
 pub mod Communities
 pub mod Lists
 pub mod Items
+pub mod Kinds

@@ -1,8 +1,12 @@
 -- Lists of words, and paths of AS numbers.
-use Rattle.std.specs.Prelude.{ℕ, ◌≡◌, ◌⊎◌, ◌+◌, ◌<◌, ◌≤◌, true, false, List, [], ◌∷◌, length, if◌then◌else◌}
+use Rattle.std.specs.Prelude.{ℕ, ◌≡◌, ◌⊎◌, ◌+◌, ◌<◌, ◌≤◌, true, false, List, [], ◌∷◌, ◌++◌, length}
+use Rattle.std.specs.Prelude.{if◌then◌else◌}
 use Rattle.route_values.specs.declared.path.Segment.{Segment}
+use Rattle.route_values.specs.Path.{AllFilled}
 use Rattle.text_forms.specs.Numbers.{IsAsn}
 use Rattle.token_reader.specs.Tokens.{Token, Mark, Word}
+use Rattle.route_grammar.specs.declared.path.Part.{Part}
+use Rattle.route_grammar.specs.declared.path.Part.TheVariants.{Number, Set}
 use Rattle.route_grammar.specs.Limits.{Limits, Counted, Numbers}
 use Rattle.route_grammar.specs.Productions.{Production, OneWord, Saying, Either, Bracketed}
 
@@ -38,11 +42,6 @@ abbrev pub AloneOrIn : {V : Type 0} → (List ℕ → V → Type 0) → Producti
 AloneOrIn Spells limits tokens value =
     (word : List ℕ) × Spells word value
     × ((tokens ≡ Word word ∷ []) ⊎ (tokens ≡ opening_paren ∷ Word word ∷ closing_paren ∷ []))
-
--- a part of a path between brackets: a number, or numbers between parentheses
-pub data Part : Type 0 where
-  Number : ℕ → Part
-  Set : List ℕ → Part
 
 -- at least one number, and with those before no more than the limit allows
 abbrev pub IsSet : ℕ → Limits → List ℕ → Type 0
@@ -88,6 +87,11 @@ lead (number ∷ numbers) segments = onto number (lead numbers segments)
 abbrev pub closed : List ℕ → List Segment
 closed [] = []
 closed (number ∷ numbers) = record { set = false; numbers = number ∷ numbers } ∷ []
+
+-- segments, and a run of numbers that goes on behind them, that parts make, whatever parts follow
+pub record AreJoined (segments : List Segment) (run : List ℕ) (parts : List Part) : Type 0 where
+  pub joined_are : (more : List Part) → joined (parts ++ more) ≡ segments ++ lead run (joined more)
+  pub filled : AllFilled segments
 
 -- together no more numbers than the limit allows
 abbrev pub AreFewNumbers : Limits → List Part → Type 0

@@ -1,4 +1,4 @@
-//! The kinds of words that items have.
+//! The kinds of words that every grammar has.
 ghost use Rattle.std.proofs.Common.{decimal, ◌∷◌, ◌++◌, arith, refl, inl};
 
 use crate::words::Spelling;
