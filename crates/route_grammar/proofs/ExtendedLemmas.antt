@@ -121,7 +121,8 @@ sorted_one word other bytes is also =
     (sort_name is.name is.sort is.sort_is) (sort_name also.name also.sort also.sort_is)
     (sym is.word_is ∙ also.word_is) in
     let inner = first_same 58 is.text (decimal is.low) also.text (decimal also.low)
-    (parts_colonless is.text is.sort is.low other is.parts) (parts_colonless also.text also.sort also.low bytes also.parts)
+    (parts_colonless is.text is.sort is.low other is.parts) (parts_colonless also.text also.sort also.low bytes
+    also.parts)
     outer.1 in
     let sorts = sort_one also.name is.sort also.sort
     (subst (λ (name : List ℕ). IsSort name is.sort) outer.0 is.sort_is) also.sort_is in
@@ -151,7 +152,8 @@ no_sorted word name parts bytes lacks cut none (inl is) =
 no_sorted word name parts bytes lacks cut none (inr is) =
     let at = first_same 58 name parts is.name (is.text ++ 58 ∷ decimal is.low) (lacks_from_all 58 name lacks)
     (sort_name is.name is.sort is.sort_is) (sym cut ∙ is.word_is) in
-    none is.sort is.text is.low bytes (subst (λ (one : List ℕ). IsSort one is.sort) (sym at.0) is.sort_is) is.parts at.1
+    none is.sort is.text is.low bytes (subst (λ (one : List ℕ). IsSort one is.sort) (sym at.0) is.sort_is) is.parts
+    at.1
 
 pub no_hexadecimal : (word bytes : List ℕ) → All (λ b. b ≢ 58) word
     → ((other : List ℕ) → IsHexadecimal word other → ⊥) → IsExtended word bytes → ⊥
@@ -178,13 +180,15 @@ pub no_parts : (name parts text rest also bytes : List ℕ) (sort low other_sort
     → All (λ b. b ≢ 58) text → parts ≡ text ++ 58 ∷ rest → rest ≡ decimal low → low < 2 ^ 32
     → ((other : List ℕ) → IsParts text sort low other → ⊥) → IsSort name other_sort
     → IsParts also other_sort other_low bytes → parts ≡ also ++ 58 ∷ decimal other_low → ⊥
-no_parts name parts text rest also bytes sort low other_sort other_low sort_is lacks cut rest_is small none other_is are
+no_parts name parts text rest also bytes sort low other_sort other_low sort_is lacks cut rest_is small none other_is
+    are
     is =
     let at = parts_cut parts text rest also other_sort other_low bytes (lacks_from_all 58 text lacks) cut are is in
     let lows = number_one _ other_low low (parts_low also other_sort other_low bytes are) small refl
     (sym at.1 ∙ rest_is) in
     none bytes
-    (same_parts also text other_sort sort other_low low bytes (sym at.0) (sort_one name other_sort sort other_is sort_is)
+    (same_parts also text other_sort sort other_low low bytes (sym at.0) (sort_one name other_sort sort other_is
+    sort_is)
     lows are)
 
 pub no_low : (parts text rest also bytes : List ℕ) (sort low : ℕ) → All (λ b. b ≢ 58) text
@@ -217,7 +221,13 @@ pub no_wide_parts : (text : List ℕ) (high sort low : ℕ) (bytes : List ℕ) �
     → text ≡ decimal high → high < 2 ^ 32 → 65536 ≤ high → 65536 ≤ low → IsParts text sort low bytes → ⊥
 no_wide_parts text high sort low bytes no_addr is below above large (inl (number, also, small, value)) =
     no_addr number also
-no_wide_parts text high sort low bytes no_addr is below above large (inr (inl (number, small, also, low_small, value))) =
+no_wide_parts text high sort low bytes no_addr is below above large (inr (inl (
+  number,
+  small,
+  also,
+  low_small,
+  value,
+))) =
     omega (arith, number_one text high number below (omega (arith, small)) is also, small, above)
 no_wide_parts text high sort low bytes no_addr is below above large
     (inr (inr (number, over, small, also, low_small, value))) =

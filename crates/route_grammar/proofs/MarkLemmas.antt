@@ -7,10 +7,12 @@ use Rattle.route_grammar.specs.declared.fault.LineFault.TheVariants.{BadToken}
 use Rattle.route_grammar.specs.declared.fault.ReadFault.{ReadFault}
 use Rattle.route_grammar.specs.declared.fault.ReadFault.TheVariants.{Line}
 use Rattle.route_grammar.specs.Limits.{Limits, in_force}
-use Rattle.route_grammar.specs.Productions.{Production, OneToken, OneWord, Then, Saying, IsRead, front, nothing_further}
+use Rattle.route_grammar.specs.Productions.{Production, OneToken, OneWord, Then, Saying, IsRead}
+use Rattle.route_grammar.specs.Productions.{front, nothing_further}
 use Rattle.route_grammar.specs.Answered.{Answers, Faults, Reads, column}
 use Rattle.route_grammar.specs.Lists.{AloneOrIn, opening_paren, closing_paren}
-use Rattle.route_grammar.proofs.ProductionLemmas.{Grows, HasReading, IsChosen, leads_all, one_token_read, one_token_fault}
+use Rattle.route_grammar.proofs.ProductionLemmas.{Grows, HasReading, IsChosen, leads_all}
+use Rattle.route_grammar.proofs.ProductionLemmas.{one_token_read, one_token_fault}
 use Rattle.route_grammar.proofs.AnsweredLemmas.{then_answers, first_answers, chosen_answers, saying_answers}
 use Rattle.route_grammar.proofs.AnsweredLemmas.{saying_reads}
 use Rattle.route_grammar.proofs.GrowLemmas.{word_grows}

@@ -154,11 +154,13 @@ pub part_fault : (tokens mid left : List Placed) (end : Place) (whole : List Seg
     → count < 255 → Answers {V = Part} (PartBehind count) nothing_further in_force mid left end (Err fault)
     → Answers {V = List Segment} (Saying joined InPath) nothing_further in_force tokens left end (Err fault)
 part_fault tokens mid left end whole run count fault are still room answers =
-    let behind : Answers {V = Part} (PartBehind (count_of are.parts)) nothing_further in_force mid left end (Err fault) =
+    let behind : Answers {V = Part} (PartBehind (count_of are.parts)) nothing_further in_force mid left end (Err
+    fault) =
     subst (λ (n : ℕ). Answers {V = Part} (PartBehind n) nothing_further in_force mid left end (Err fault)) are.count_is
     answers in
     saying_answers joined InPath nothing_further in_force tokens left end fault
-    (fault_answers (PartBehind (count_of are.parts)) InPath nothing_further nothing_further in_force mid tokens left end
+    (fault_answers (PartBehind (count_of are.parts)) InPath nothing_further nothing_further in_force mid tokens left
+    end
     fault
     (λ over faults. next_faults opening_bracket closing_bracket (PartBehind (count_of are.parts)) OnePart AreFewNumbers
     part_further in_force tokens mid left over are.parts part_grows refl are.inside (λ held fits. still)
@@ -186,7 +188,8 @@ pub path_read : (tokens left behind : List Placed) (whole path : List Segment) (
 path_read tokens left behind whole path run count are at behind_is path_is =
     subst (λ (segments : List Segment). Reads (Saying joined InPath) nothing_further in_force tokens behind segments)
     (sym (path_is ∙ all_joined whole run are.parts are.drawn))
-    (subst (λ (rest : List Placed). Reads (Saying joined InPath) nothing_further in_force tokens rest (joined are.parts))
+    (subst (λ (rest : List Placed). Reads (Saying joined InPath) nothing_further in_force tokens rest (joined
+    are.parts))
     (sym behind_is)
     (saying_reads joined InPath nothing_further in_force tokens (behind_front left) are.parts
     (inside_read opening_bracket closing_bracket OnePart AreFewNumbers part_further in_force tokens left are.parts

@@ -147,7 +147,8 @@ abbrev pub InPath : Production (List Part)
 InPath = Bracketed opening_bracket closing_bracket OnePart AreFewNumbers
 
 -- a part has a number or more
-pub part_some : (limits : Limits) (text : List Token) (part : Part) → OnePart limits text part → 0 < count_of (part ∷ [])
+pub part_some : (limits : Limits) (text : List Token) (part : Part) → OnePart limits text part → 0 < count_of (part ∷
+    [])
 part_some limits text part (inl one) =
     subst (λ (read : Part). 0 < count_of (read ∷ [])) (sym one.1) (omega arith)
 part_some limits text part (inr set) =
@@ -158,12 +159,14 @@ count_more : (parts more : List Part) (part : Part)
 count_more parts more part = count_append parts (part ∷ more)
     ∙ ap (λ n. count_of parts + n) (count_append (part ∷ []) more)
 
-too_few : (limits : Limits) (parts more : List Part) (text : List Token) (part : Part) → limits Numbers ≤ count_of parts
+too_few : (limits : Limits) (parts more : List Part) (text : List Token) (part : Part) → limits Numbers ≤ count_of
+    parts
     → OnePart limits text part → AreFewNumbers limits (parts ++ part ∷ more) → ⊥
 too_few limits parts more text part full read fits =
     omega (arith, full, fits, count_more parts more part, part_some limits text part read)
 
-front_of : (rest tokens others : List Token) (token : Option Token) → front rest ≡ token → [] ++ rest ≡ tokens ++ others
+front_of : (rest tokens others : List Token) (token : Option Token) → front rest ≡ token → [] ++ rest ≡ tokens ++
+    others
     → token ≡ front (tokens ++ others)
 front_of rest tokens others token at same = sym at ∙ ap front same
 

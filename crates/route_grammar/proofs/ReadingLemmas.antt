@@ -153,7 +153,8 @@ more_read family tokens mid left end read more seen also one said item are at te
           are.along (item_reads family one mid left end item at reads);
       differ = differ_more [] are.items item are.differ
           (subst (λ (kind : Kind). is_among kind (seen_behind [] are.items) ≡ false) (sym kind_is) new);
-      read_is = more_is ∙ ap (λ (before : Items). put before item) are.read_is ∙ sym (put_more none_written are.items item);
+      read_is = more_is ∙ ap (λ (before : Items). put before item) are.read_is ∙ sym (put_more none_written are.items
+          item);
       seen_are = subst (λ (kinds : List Kind). HasKinds also kinds)
           (sym (seen_more [] are.items item ∙ ap (λ (kind : Kind). kind ∷ seen_behind [] are.items) kind_is))
           (also_are (seen_behind [] are.items) are.seen_are);

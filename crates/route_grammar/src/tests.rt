@@ -1,8 +1,25 @@
-//! Words and lists, read from lines.
+//! Words, lists and items, read from lines.
 use crate::LineFault::{BadToken, TooMany};
-use crate::{Asn, Ipv4, LineFault, Number, ReadFault, read_list, read_word};
+use crate::{Asn, Ipv4, Items, LineFault, Number, ReadFault, read_list, read_word};
 use route_values::U32s;
-use token_reader::{Tokens, Words};
+use token_reader::{MAX_LINE, Tokens, Words};
+
+mod faults;
+mod items;
+mod limits;
+
+// The tokens of a line, which is not too long.
+fn tokens(line: &[u8]) -> Tokens<'_> {
+    Tokens::new(&line[..line.len().min(MAX_LINE)])
+}
+
+// Whether a reader gave this fault.
+fn has_fault(read: &Result<Items, ReadFault>, wanted: LineFault) -> bool {
+    match read {
+        Err(ReadFault::Line(fault)) => *fault == wanted,
+        _ => false,
+    }
+}
 
 // Whether a reader gave these numbers, or this fault.
 fn is_answer(read: &Result<U32s, ReadFault>, wanted: Result<&[u32], LineFault>) -> bool {

@@ -14,5 +14,6 @@ returns-else-is_mark-clause-answers g c =
     chosen_answers (OneWord spells) (AloneOrIn spells) nothing_further in_force (g.W.Words.left c.args.words.now)
     (g.W.Words.left c.read_word.new.words) (g.W.Words.end c.read_word.new.words)
     (front_token (g.W.Words.left c.args.words.now)) c.read_word.result
-    (alone_chosen spells (front_token (g.W.Words.left c.args.words.now)) (iff_false c.is_mark.ensures c.if-is_mark.false))
+    (alone_chosen spells (front_token (g.W.Words.left c.args.words.now)) (iff_false c.is_mark.ensures
+    c.if-is_mark.false))
     refl c.read_word.ensures.answers

@@ -25,7 +25,8 @@ pub returns-then-is_mark-clause-answers : goal.returns-then-is_mark-clause-answe
 returns-then-is_mark-clause-answers g c =
     chosen_answers (Saying Set (SetBehind c.args.before)) (PartBehind c.args.before) nothing_further
     in_force (g.W.Words.left c.args.words.now) (g.W.Words.left c.read_set.new.words)
-    (g.W.Words.end c.read_set.new.words) (Some opening_paren) (Ok (Set c.in_ok-numbers.numbers)) (part_set c.args.before)
+    (g.W.Words.end c.read_set.new.words) (Some opening_paren) (Ok (Set c.in_ok-numbers.numbers)) (part_set
+    c.args.before)
     (c.is_mark.ensures.0 c.if-is_mark.true)
     (saying_reads Set (SetBehind c.args.before) nothing_further in_force (g.W.Words.left c.args.words.now)
     (g.W.Words.left c.read_set.new.words) c.in_ok-numbers.numbers c.in_ok-numbers.ensures.answers)
@@ -45,7 +46,8 @@ pub returns-clause-answers : goal.returns-clause-answers
 returns-clause-answers g c =
     chosen_answers (Saying Number (OneWord IsAsn)) (PartBehind c.args.before) nothing_further
     in_force (g.W.Words.left c.args.words.now) (g.W.Words.left c.read_word.new.words)
-    (g.W.Words.end c.read_word.new.words) (front_token (g.W.Words.left c.args.words.now)) (Ok (Number c.in_ok-number.number))
+    (g.W.Words.end c.read_word.new.words) (front_token (g.W.Words.left c.args.words.now)) (Ok (Number
+    c.in_ok-number.number))
     (part_number c.args.before (front_token (g.W.Words.left c.args.words.now))
     (iff_false c.is_mark.ensures c.if-is_mark.false)) refl
     (saying_reads Number (OneWord IsAsn) nothing_further in_force (g.W.Words.left c.args.words.now)

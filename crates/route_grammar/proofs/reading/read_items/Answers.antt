@@ -7,7 +7,8 @@ use Rattle.route_grammar.proofs.reading.read_items.Goals as goal
 pub items-init : goal.items-init
 items-init g c = record {
   end = refl;
-  read = none_read c.args.family (g.W.Words.left c.args.words.now) c.none-items.result c.new-seen.result c.none-items.ensures
+  read = none_read c.args.family (g.W.Words.left c.args.words.now) c.none-items.result c.new-seen.result
+      c.none-items.ensures
       c.new-seen.ensures;
 }
 

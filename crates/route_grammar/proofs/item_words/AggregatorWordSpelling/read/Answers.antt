@@ -4,4 +4,5 @@ use Rattle.route_grammar.proofs.item_words.AggregatorWordSpelling.read.Goals as 
 
 pub returns-clause-only : goal.returns-clause-only
 returns-clause-only c =
-    some_map c.aggregator_of.result _ _ (λ value is other also. aggregator_one c.args.word.now other value also is) c.aggregator_of.ensures.found
+    some_map c.aggregator_of.result _ _ (λ value is other also. aggregator_one c.args.word.now other value also is)
+    c.aggregator_of.ensures.found

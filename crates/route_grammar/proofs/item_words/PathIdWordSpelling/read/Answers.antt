@@ -4,4 +4,5 @@ use Rattle.route_grammar.proofs.item_words.PathIdWordSpelling.read.Goals as goal
 
 pub returns-clause-only : goal.returns-clause-only
 returns-clause-only c =
-    some_map c.path_id_of.result _ _ (λ value is other also. path_id_one c.args.word.now other value also is) c.path_id_of.ensures.found
+    some_map c.path_id_of.result _ _ (λ value is other also. path_id_one c.args.word.now other value also is)
+    c.path_id_of.ensures.found
