@@ -1,5 +1,5 @@
 -- What an operand's reader answers, in the words of its item.
-use Rattle.std.proofs.Common.{◌≡◌, List, Option, Result, Ok, Err, refl, sym, subst}
+use Rattle.std.proofs.Common.{◌≡◌, List, Option, Result, Ok, Err, sym, subst}
 use Rattle.std.specs.Result.{MatchResult, IsOkAnd}
 use Rattle.route_values.specs.declared.addr.Family.{Family}
 use Rattle.token_reader.specs.declared.token.Place.{Place}

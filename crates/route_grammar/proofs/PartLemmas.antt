@@ -1,5 +1,5 @@
 -- Parts of a path that were read so far, and the answers of a path's reader.
-use Rattle.std.proofs.Common.{ℕ, ◌≡◌, ◌≢◌, ◌<◌, ◌≤◌, ◌+◌, List, [], ◌∷◌, ◌++◌, length, Option, Some, Result, Ok, Err}
+use Rattle.std.proofs.Common.{ℕ, ◌≡◌, ◌≢◌, ◌<◌, ◌≤◌, ◌+◌, List, [], ◌∷◌, ◌++◌, Option, Some, Err}
 use Rattle.std.proofs.Common.{ap, sym, ◌∙◌, refl, subst, arith, inl, inr}
 use Rattle.route_values.specs.declared.path.Segment.{Segment}
 use Rattle.text_forms.specs.Numbers.{IsAsn}
@@ -8,14 +8,14 @@ use Rattle.token_reader.specs.Tokens.{Token, Mark, Word, Placed, front_token, be
 use Rattle.route_grammar.specs.declared.fault.ReadFault.{ReadFault}
 use Rattle.route_grammar.specs.declared.path.Part.{Part}
 use Rattle.route_grammar.specs.declared.path.Part.TheVariants.{Number, Set}
-use Rattle.route_grammar.specs.Limits.{Counted, Numbers, Limits, in_force}
-use Rattle.route_grammar.specs.Productions.{Production, OneWord, Saying, Bracketed, Repeated, IsRead, front}
+use Rattle.route_grammar.specs.Limits.{Numbers, Limits, in_force}
+use Rattle.route_grammar.specs.Productions.{Production, OneWord, Saying, Repeated, IsRead, front}
 use Rattle.route_grammar.specs.Productions.{nothing_further}
-use Rattle.route_grammar.specs.Answered.{Answers, Faults, Reads, IsNoRoom, tokens_of}
+use Rattle.route_grammar.specs.Answered.{Answers, Reads, IsNoRoom, tokens_of}
 use Rattle.route_grammar.specs.Lists.{OnePath, OnePart, PartBehind, SetBehind, AreFewNumbers, AreJoined, joined, onto}
 use Rattle.route_grammar.specs.Lists.{count_of, closed, opening_bracket, closing_bracket, opening_paren}
 use Rattle.route_grammar.proofs.ProductionLemmas.{IsChosen}
-use Rattle.route_grammar.proofs.AnsweredLemmas.{fault_answers, saying_answers, saying_reads, chosen_answers}
+use Rattle.route_grammar.proofs.AnsweredLemmas.{fault_answers, saying_answers, saying_reads}
 use Rattle.route_grammar.proofs.GrowLemmas.{part_grows}
 use Rattle.route_grammar.proofs.InsideLemmas.{IsInside, inside_more, inside_read, next_faults}
 use Rattle.route_grammar.proofs.ListLemmas.{inside_begin}

@@ -14,13 +14,13 @@ use Rattle.route_grammar.specs.declared.items.Item.{Item}
 use Rattle.route_grammar.specs.declared.items.Items.{Items}
 use Rattle.route_grammar.specs.declared.kind.Kind.{Kind}
 use Rattle.route_grammar.specs.declared.kind.Kinds.{Kinds}
-use Rattle.route_grammar.specs.Limits.{Counted, Limits, in_force}
-use Rattle.route_grammar.specs.Productions.{Production, OneToken, Then, IsRead, front, nothing_further}
-use Rattle.route_grammar.specs.Answered.{Answers, Faults, Reads, column}
+use Rattle.route_grammar.specs.Limits.{in_force}
+use Rattle.route_grammar.specs.Productions.{OneToken, nothing_further}
+use Rattle.route_grammar.specs.Answered.{Answers, Reads, column}
 use Rattle.route_grammar.specs.Items.{keyword, kind_of, Operand, OneItem, ItemOf, AllDiffer, AreDifferent, ReadsItems}
 use Rattle.route_grammar.specs.Items.{all_kinds, is_among, put, put_all, none_written, items_further}
 use Rattle.route_grammar.specs.Kinds.{HasKinds}
-use Rattle.route_grammar.proofs.ProductionLemmas.{Grows, IsChosen, leads_all}
+use Rattle.route_grammar.proofs.ProductionLemmas.{IsChosen, leads_all}
 use Rattle.route_grammar.proofs.AnsweredLemmas.{fault_answers, then_answers, chosen_answers}
 use Rattle.route_grammar.proofs.AlongLemmas.{IsAlong, along_none, along_more, along_reads, along_stops, along_faults}
 use Rattle.route_grammar.proofs.GrowLemmas.{item_grows}

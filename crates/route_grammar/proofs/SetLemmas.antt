@@ -3,11 +3,11 @@ use Rattle.std.proofs.Common.{ℕ, ◌≡◌, ◌≢◌, ◌<◌, ◌≤◌, ◌
 use Rattle.std.proofs.Common.{refl, subst, arith, inl, inr, length-append}
 use Rattle.text_forms.specs.Numbers.{IsAsn}
 use Rattle.token_reader.specs.declared.token.Place.{Place}
-use Rattle.token_reader.specs.Tokens.{Token, Mark, Word, Placed, front_token, behind_front}
+use Rattle.token_reader.specs.Tokens.{Token, Placed, front_token, behind_front}
 use Rattle.route_grammar.specs.declared.fault.ReadFault.{ReadFault}
-use Rattle.route_grammar.specs.Limits.{Counted, Numbers, Limits, in_force, raised}
-use Rattle.route_grammar.specs.Productions.{Production, OneWord, Bracketed, nothing_further}
-use Rattle.route_grammar.specs.Answered.{Answers, Faults, Reads, IsNoRoom}
+use Rattle.route_grammar.specs.Limits.{Numbers, Limits, in_force, raised}
+use Rattle.route_grammar.specs.Productions.{OneWord, nothing_further}
+use Rattle.route_grammar.specs.Answered.{Answers, Reads, IsNoRoom}
 use Rattle.route_grammar.specs.Lists.{IsSet, SetBehind, opening_paren, closing_paren}
 use Rattle.route_grammar.proofs.AnsweredLemmas.{fault_answers}
 use Rattle.route_grammar.proofs.InsideLemmas.{IsInside, IsNext, inside_read, next_faults}

@@ -1,9 +1,6 @@
 -- Next hops, origins and the words of items: that each word spells one.
-use Rattle.std.proofs.Common.{ℕ, ◌≡◌, ◌≢◌, ◌≤◌, ◌++◌, ◌∷◌, true, false, cond, eqb, get_or, length, List, [], codes}
-use Rattle.std.proofs.Common.{decimal, Option, Some, None, arith, ap, sym, ◌∙◌, refl, subst, inl, inr, ◌==◌, Bool, ◌||◌}
-use Rattle.std.proofs.Common.{bytes_eq}
-use Rattle.std.proofs.lemmas.Bool.{false≢true}
-use Rattle.std.specs.List.{list_any}
+use Rattle.std.proofs.Common.{ℕ, ◌≡◌, ◌≢◌, ◌≤◌, ◌++◌, ◌∷◌, cond, eqb, get_or, length, List, [], codes}
+use Rattle.std.proofs.Common.{decimal, Option, arith, ap, sym, ◌∙◌, refl, subst, inl, inr}
 use Rattle.route_values.specs.declared.addr.Addr.{Addr}
 use Rattle.route_values.specs.declared.addr.Addr.TheVariants.{V4, V6}
 use Rattle.route_values.specs.declared.addr.Family.{Family}

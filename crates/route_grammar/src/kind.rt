@@ -1,5 +1,5 @@
 //! The kinds of items, and sets of them.
-ghost use Rattle.std.specs.Prelude.{◌≡◌, ◌↔◌, ℕ, List, [], ◌∷◌, IsTrue, IfSome, IfNone};
+ghost use Rattle.std.specs.Prelude.{◌≡◌, ◌↔◌, List, [], ◌∷◌, IsTrue, IfSome, IfNone};
 ghost use Rattle.route_grammar.specs.declared.kind.Kind.{Kind as Any};
 ghost use Rattle.route_grammar.specs.Items.{IsKeyword, is_among, kind_code};
 ghost use Rattle.route_grammar.specs.Kinds.{HasKinds};

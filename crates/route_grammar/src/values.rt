@@ -1,5 +1,5 @@
 //! The numbers and addresses of items, each in one word.
-ghost use Rattle.std.specs.Prelude.{◌≡◌, ℕ, IfSome, IfNone, IsTrue, ◌↔◌};
+ghost use Rattle.std.specs.Prelude.{ℕ, ◌↔◌, IfSome, IfNone, IsTrue};
 ghost use Rattle.route_values.specs.declared.attrs.Hop.{Hop as AnyHop};
 ghost use Rattle.route_values.specs.declared.attrs.Origin.{Origin as AnyOrigin};
 ghost use Rattle.route_grammar.specs.Numbers.{IsPathId, IsOfFamily, IsHop, IsOrigin};

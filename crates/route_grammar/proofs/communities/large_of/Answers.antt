@@ -1,4 +1,4 @@
-use Rattle.std.proofs.Common.{◌∙◌, sym}
+use Rattle.std.proofs.Common.{sym}
 use Rattle.route_grammar.proofs.communities.large_of.Goals as goal
 
 pub returns-in_err-global-clause-none : goal.returns-in_err-global-clause-none

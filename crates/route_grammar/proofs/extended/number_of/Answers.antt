@@ -1,4 +1,4 @@
-use Rattle.std.proofs.Common.{ℕ, ◌≡◌, ◌<◌, ◌≤◌, ◌^◌, length, take, get_or, arith, ap, ◌∙◌, sym}
+use Rattle.std.proofs.Common.{arith}
 use Rattle.std.proofs.lemmas.Int.Digits.{digits_more, digits_value_more}
 use Rattle.text_forms.proofs.Ipv6Lemmas.{digit_in}
 use Rattle.route_grammar.proofs.ExtendedLemmas.{digits_below}

@@ -1,9 +1,8 @@
-use Rattle.std.proofs.Common.{◌∷◌, [], refl, arith}
+use Rattle.std.proofs.Common.{[], arith}
 use Rattle.std.proofs.lemmas.Result.{err_from_is_err_and}
 use Rattle.text_forms.specs.Numbers.{IsAsn}
-use Rattle.route_grammar.specs.declared.path.Part.TheVariants.{Number}
 use Rattle.route_grammar.specs.Limits.{in_force}
-use Rattle.route_grammar.specs.Lists.{onto, AreJoined}
+use Rattle.route_grammar.specs.Lists.{onto}
 use Rattle.route_grammar.specs.Productions.{OneWord, nothing_further}
 use Rattle.route_grammar.proofs.AnsweredLemmas.{saying_answers}
 use Rattle.route_grammar.proofs.PathLemmas.{nothing_drawn}
