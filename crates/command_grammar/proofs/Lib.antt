@@ -4,3 +4,8 @@ pub mod SampleLemmas
 pub mod SelectorLemmas
 pub mod PicksLemmas
 pub mod TargetLemmas
+pub mod RouteLemmas
+pub mod BlockLemmas
+pub mod VerbLemmas
+pub mod KindLemmas
+pub mod LineLemmas

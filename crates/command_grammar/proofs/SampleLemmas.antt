@@ -1,11 +1,12 @@
 -- A word of each kind, so that what is begun has a completion.
-use Rattle.std.proofs.Common.{ℕ, ◌≡◌, List, [], ◌∷◌, decimal, codes, arith, ap, sym, ◌∙◌, refl, inl}
+use Rattle.std.proofs.Common.{ℕ, ◌≡◌, List, [], ◌∷◌, Option, Some, None, decimal, codes, arith, ap, sym, ◌∙◌, refl, inl}
 use Rattle.std.proofs.Common.{if◌then◌else◌}
 use Rattle.std.specs.Str.{bytes_eq}
 use Rattle.route_values.specs.declared.addr.Addr.{Addr}
 use Rattle.route_values.specs.declared.addr.Addr.TheVariants.{V4, V6}
 use Rattle.route_values.specs.declared.addr.Family.{Family}
 use Rattle.route_values.specs.declared.addr.Family.TheVariants.{Ipv4, Ipv6}
+use Rattle.route_values.specs.Addr.{family_of}
 use Rattle.route_values.specs.Prefix.{Block, IsPrefix}
 use Rattle.text_forms.specs.Addresses.{IsIpv4}
 use Rattle.text_forms.specs.Families.{IsAddrText, IsBlockText}
@@ -21,6 +22,7 @@ use Rattle.command_grammar.specs.declared.keywords.Form.{Form}
 use Rattle.command_grammar.specs.declared.keywords.Form.TheVariants.{Route, Attributes}
 use Rattle.command_grammar.specs.Forms.{IsCode}
 use Rattle.command_grammar.specs.Keywords.{IsVerb, IsForm, verb_word, form_word}
+use Rattle.command_grammar.specs.Routes.{IsBlockOf}
 use Rattle.command_grammar.proofs.TokenLemmas.{Sample}
 
 pub sample_some : {V : Type 0} (Spells : List ℕ → V → Type 0) → Sample Spells → HasReading (OneWord Spells)
@@ -62,6 +64,21 @@ all_spelled family = block_spelled (all_of family) (all_prefix family)
 
 abbrev pub block_sample : Sample IsBlockText
 block_sample = record { word = prefix_text (all_of Ipv4); value = all_of Ipv4; spelled = all_spelled Ipv4 }
+
+-- a prefix of the wanted family, where one is wanted
+no_bits_of : (family : Family) → family_of (no_bits family) ≡ family
+no_bits_of Ipv4 = refl
+no_bits_of Ipv6 = refl
+
+pub block_of_some : (wanted : Option Family) → Sample (IsBlockOf wanted)
+block_of_some None =
+    record { word = prefix_text (all_of Ipv4); value = all_of Ipv4; spelled = (all_spelled Ipv4, tt) }
+block_of_some (Some family) =
+    record {
+      word = prefix_text (all_of family);
+      value = all_of family;
+      spelled = (all_spelled family, no_bits_of family);
+    }
 
 -- ---- no two verbs have one word, and no two forms
 

@@ -24,7 +24,7 @@ use Rattle.command_grammar.proofs.FormLemmas.{behind_ok, behind_err, ended_ok, e
 
 -- ---- the words `adj-rib out`
 
-out_some : HasReading (OneToken (Word (codes "out")))
+pub out_some : HasReading (OneToken (Word (codes "out")))
 out_some limits = (Word (codes "out") ∷ [], tt, refl)
 
 pub out_first_err : (tokens left : List Placed) (end : Place) (error : ReadFault)

@@ -1,5 +1,5 @@
 -- What a line says.
-use Rattle.std.specs.Prelude.{ℕ, ◌≡◌, ◌+◌, List, [], ◌∷◌, Some, None}
+use Rattle.std.specs.Prelude.{ℕ, ◌≡◌, ◌==◌, ◌+◌, Bool, false, List, [], ◌∷◌, Option, Some, None}
 use Rattle.token_reader.specs.Tokens.{Token, Word}
 use Rattle.route_grammar.specs.declared.fault.LineFault.{LineFault}
 use Rattle.route_grammar.specs.declared.fault.LineFault.TheVariants.{BadToken, TooMany, TooLong}
@@ -18,6 +18,11 @@ use Rattle.command_grammar.specs.Targets.{Targeted}
 abbrev pub IsRemark : Production Command
 IsRemark limits tokens command =
     (bytes : List ℕ) × (others : List Token) × (tokens ≡ Word (35 ∷ bytes) ∷ others) × (command ≡ said.Comment)
+
+-- a token that such a line begins with
+abbrev pub is_remark : Option Token → Bool
+is_remark (Some (Word (first ∷ bytes))) = first == 35
+is_remark _ = false
 
 -- a command that is a line by itself, or one for the neighbours that are picked, or for every neighbour
 abbrev pub Spoken : Production Command

@@ -1,5 +1,5 @@
 -- A line together with what reading it gave.
-use Rattle.std.specs.Prelude.{ℕ, ◌≡◌, ◌≤◌, List, length, Result, Ok, Err}
+use Rattle.std.specs.Prelude.{ℕ, ◌≡◌, ◌≤◌, ◌<◌, List, length, Result, Ok, Err}
 use Rattle.text_forms.specs.declared.lines.Line.{Line as Given}
 use Rattle.text_forms.specs.Lines.{Line, Text, TooLong}
 use Rattle.text_forms.specs.LineTold.{line_told}
@@ -19,11 +19,6 @@ pub record Reading : Type 0 where
 abbrev pub reading_told : Given → Result Command ReadFault → Reading
 reading_told line reading = record { line = line_told line; reading = reading }
 
--- a text of at most 65,535 bytes, where there is one
-abbrev pub HasText : Line → Type 0
-HasText (Text text) = length text ≤ 65535
-HasText TooLong = Unit {0}
-
 -- the one command that the text says, or why it isn't known
 abbrev pub SaysText : List ℕ → Result Command ReadFault → Type 0
 SaysText text (Ok command) =
@@ -31,9 +26,10 @@ SaysText text (Ok command) =
     × ((other : Command) → ReadsLine in_force (line_tokens 0 text) other → other ≡ command)
 SaysText text (Err refused) = IsRefused (line_tokens 0 text) refused
 
--- the reading is that of the line
+-- the reading is that of the line; a text of over 65,535 bytes is too long
 abbrev pub Says : Line → Result Command ReadFault → Type 0
-Says (Text text) reading = SaysText text reading
+Says (Text text) reading =
+    (length text ≤ 65535 → SaysText text reading) × (65535 < length text → reading ≡ Err (read.Line fault.TooLong))
 Says TooLong reading = reading ≡ Err (read.Line fault.TooLong)
 
 abbrev pub IsReading : Reading → Type 0
