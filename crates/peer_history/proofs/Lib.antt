@@ -7,3 +7,4 @@ pub mod VisibleLemmas
 pub mod PackedLemmas
 pub mod NodeLemmas
 pub mod OrderedLemmas
+pub mod LeftLemmas

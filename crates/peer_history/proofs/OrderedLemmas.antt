@@ -172,7 +172,7 @@ wanted_asked (Kept settings statics ∷ steps) key h =
 wanted_asked (Vacated ∷ steps) key h = cc
 wanted_asked (step ∷ steps) key h = wanted_asked steps key h
 
-shown_asked : (caps : Caps) (steps : List Step) (key : Key) → IsSome (view caps steps key)
+pub shown_asked : (caps : Caps) (steps : List Step) (key : Key) → IsSome (view caps steps key)
     → is_named (asked_for steps) key ≡ true
 shown_asked caps steps key h = wanted_asked steps key (shown_wanted caps steps key h)
 
@@ -209,7 +209,7 @@ target_asked caps steps key h =
     ] refl h
 
 -- what a peer has was asked for
-peer_asked : Grammar → (steps : List Step) → IsLegal steps → (caps : Caps) → session steps ≡ Some caps → (key : Key)
+pub peer_asked : Grammar → (steps : List Step) → IsLegal steps → (caps : Caps) → session steps ≡ Some caps → (key : Key)
     → IsSome (peer caps steps key) → is_named (asked_for steps) key ≡ true
 peer_asked grammar [] legal caps at key h = cc
 peer_asked grammar (Up c ∷ steps) legal caps at key h = cc
