@@ -3,3 +3,10 @@ pub mod HeadlineLemmas
 pub mod StartLemmas
 pub mod QueueLemmas
 pub mod NodeLemmas
+pub mod SelectingLemmas
+pub mod BatchExampleLemmas
+pub mod HelperExampleLemmas
+pub mod ReloadExampleLemmas
+pub mod RefusalLemmas
+pub mod EndExampleLemmas
+pub mod LegalExampleLemmas

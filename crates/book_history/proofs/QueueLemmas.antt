@@ -61,11 +61,11 @@ done_room cfg H h inc given room fits =
     let one = one_reply (acks h inc H) reply.Done in omega (arith, one, room)
 
 -- a verdict that isn't an end, and not that the queue is full, comes where neither is so
-record IsTaken (cfg : Sections) (H : History) (h inc : ℕ) : Type 0 where
+pub record IsTaken (cfg : Sections) (H : History) (h inc : ℕ) : Type 0 where
   pub timely : is_late cfg H h inc ≡ false
   pub room : (length (queued cfg h inc H) == max_queued) ≡ false
 
-taken_by : (cfg : Sections) (H : History) (h inc : ℕ) (line : Line) (reading : Result Command ReadFault)
+pub taken_by : (cfg : Sections) (H : History) (h inc : ℕ) (line : Line) (reading : Result Command ReadFault)
     (given : Verdict) → (verdict.Ended ≡ given → ⊥) → (verdict.Busy ≡ given → ⊥)
     → line_verdict cfg H h inc line reading ≡ given
     → IsTaken cfg H h inc × (reading_verdict cfg H h inc line reading ≡ given)

@@ -1,21 +1,23 @@
 -- Starts of a helper.
-use Rattle.std.proofs.Common.{◌≡◌, ℕ, ◌+◌, ◌-◌, ◌<◌, ◌≤◌, Bool, true, false, not, List, [], ◌∷◌, Some, None, refl}
+use Rattle.std.proofs.Common.{◌≡◌, ℕ, ◌+◌, ◌-◌, ◌<◌, ◌≤◌, Bool, true, false, not, List, [], ◌∷◌, ◌++◌, Some, None}
+use Rattle.std.proofs.Common.{refl}
 use Rattle.std.proofs.Common.{sym, ap}
 use Rattle.std.proofs.Common.{◌∙◌, cond, subst, arith, eq-eqb}
 use Rattle.std.specs.Prelude.{◌==◌, ◌||◌, if◌then◌else◌, nat_lt, max, Option}
 use Rattle.std.specs.List.{count_by}
 use Rattle.std.proofs.lemmas.Bool.Decides.{Decides-ltb}
-use Rattle.std.proofs.lemmas.List.Sums.{sum_by-cons}
+use Rattle.std.proofs.lemmas.List.Sums.{sum_by_push}
 use Rattle.arrayvec.specs.ArrayVec.{ArrayVec}
 use Rattle.config_model.specs.declared.sections.Process.{Process}
 use Rattle.config_model.specs.Sections.{Sections}
+use Rattle.respawn_window.specs.Starts.{greatest, raised, window, with_start}
 use Rattle.book_history.specs.declared.outcomes.Spawn.{Spawn}
 use Rattle.book_history.specs.declared.outcomes.Spawn.TheVariants as spawn
-use Rattle.book_history.specs.Bounds.{max_incarnations, max_starts, window_ms}
+use Rattle.book_history.specs.Bounds.{max_incarnations, max_starts}
 use Rattle.book_history.specs.Entries.{History}
 use Rattle.book_history.specs.Entries.Entry.{SpawnAsked}
 use Rattle.book_history.specs.HelperLaws.{IncarnationsCount, StartsAreFew}
-use Rattle.book_history.specs.Helpers.{child, in_window, is_given_up, is_present, raised, starts, starts_counted}
+use Rattle.book_history.specs.Helpers.{child, is_given_up, is_present, starts, starts_counted}
 use Rattle.book_history.specs.Legal.{gives_up, is_spent, process_started, started}
 use Rattle.book_history.specs.Slots.{process_at}
 use Rattle.book_history.specs.Verdicts.{is_stopping}
@@ -37,7 +39,7 @@ not_false false h = cc
 -- what is known of a start
 record IsStart (cfg : Sections) (H : History) (h now inc : ℕ) : Type 0 where
   pub inc_is : inc ≡ starts_counted h H + 1
-  pub few : in_window (starts cfg h H) now < max_starts
+  pub few : window (starts cfg h H) now < max_starts
 
 abbrev inc_of : Spawn → ℕ
 inc_of (spawn.Go inc run) = inc
@@ -49,15 +51,15 @@ process_start cfg H h now inc run None e = cc
 process_start cfg H h now inc run (Some process) e =
     let absent = second_is (is_present (child cfg h H)) _ _ _ (λ r. cc) e in
     let goes = second_is (gives_up cfg H h now process) _ _ _ (λ r. cc) absent.1 in
-    let one = neither (is_given_up cfg h H || not (nat_lt (in_window (starts cfg h H) now) max_starts)
+    let one = neither (is_given_up cfg h H || not (nat_lt (window (starts cfg h H) now) max_starts)
     || is_spent process (starts cfg h H)) (starts_counted h H == max_incarnations) goes.0 in
-    let two = neither (is_given_up cfg h H || not (nat_lt (in_window (starts cfg h H) now) max_starts))
+    let two = neither (is_given_up cfg h H || not (nat_lt (window (starts cfg h H) now) max_starts))
     (is_spent process (starts cfg h H)) one.0 in
-    let three = neither (is_given_up cfg h H) (not (nat_lt (in_window (starts cfg h H) now) max_starts)) two.0 in
+    let three = neither (is_given_up cfg h H) (not (nat_lt (window (starts cfg h H) now) max_starts)) two.0 in
     record {
       inc_is = sym (ap inc_of goes.1);
-      few = (Decides-ltb (in_window (starts cfg h H) now) max_starts).0
-          (not_false (nat_lt (in_window (starts cfg h H) now) max_starts) three.1);
+      few = (Decides-ltb (window (starts cfg h H) now) max_starts).0
+          (not_false (nat_lt (window (starts cfg h H) now) max_starts) three.1);
     }
 
 is_start : (cfg : Sections) (H : History) (h now inc : ℕ) (run : ArrayVec ℕ)
@@ -69,13 +71,13 @@ is_start cfg H h now inc run e =
 pub incarnations_count : IncarnationsCount
 incarnations_count cfg H h now inc run legal = (is_start cfg H h now inc run legal.0).inc_is
 
-max_twice : (a b : ℕ) → max a (max a b) ≡ max a b
-max_twice a b = omega arith
+greatest_push : (ms : List ℕ) (m : ℕ) → greatest (ms ++ m ∷ []) ≡ max (greatest ms) m
+greatest_push [] m = omega arith
+greatest_push (n ∷ ms) m = let rest = greatest_push ms m in omega (arith, rest)
 
 -- a moment that was raised already counts as it is
-raised_again : (now : ℕ) (ms : List ℕ) → raised now (raised now ms ∷ ms) ≡ raised now ms
-raised_again now [] = omega arith
-raised_again now (m ∷ ms) = max_twice now m
+raised_again : (ms : List ℕ) (now : ℕ) → raised (ms ++ raised ms now ∷ []) now ≡ raised ms now
+raised_again ms now = let last = greatest_push ms (raised ms now) in omega (arith, last)
 
 one_or_none : (so : Bool) → cond so 1 0 ≤ 1
 one_or_none true = omega arith
@@ -85,13 +87,13 @@ pub starts_are_few : StartsAreFew
 starts_are_few cfg H h now inc run legal =
     let few = (is_start cfg H h now inc run legal.0).few in
     let ms = starts cfg h H in
-    let within : ℕ → ℕ → Bool = λ from m. nat_lt (from - m) window_ms in
-    let own : starts cfg h (SpawnAsked h now (spawn.Go inc run) ∷ H) ≡ raised now ms ∷ ms =
-    ap (λ so. if so then raised now ms ∷ ms else ms) (eq-eqb h h refl) in
-    let more : in_window (raised now ms ∷ ms) now
-    ≡ cond (within (raised now ms) (raised now ms)) 1 0 + count_by (within (raised now ms)) ms =
-    ap (λ from. count_by (within from) (raised now ms ∷ ms)) (raised_again now ms)
-    ∙ sum_by-cons (λ m. cond (within (raised now ms) m) 1 0) (raised now ms) ms in
-    let one = one_or_none (within (raised now ms) (raised now ms)) in
-    let at_most : in_window (raised now ms ∷ ms) now ≤ max_starts = omega (arith, more, one, few) in
-    subst (λ moments. in_window moments now ≤ max_starts) (sym own) at_most
+    let near : ℕ → ℕ → Bool = λ from m. nat_lt (from - m) 60000 in
+    let own : starts cfg h (SpawnAsked h now (spawn.Go inc run) ∷ H) ≡ ms ++ raised ms now ∷ [] =
+    ap (λ so. with_start so ms now) (eq-eqb h h refl) in
+    let more : window (ms ++ raised ms now ∷ []) now
+    ≡ count_by (near (raised ms now)) ms + cond (near (raised ms now) (raised ms now)) 1 0 =
+    ap (λ from. count_by (near from) (ms ++ raised ms now ∷ [])) (raised_again ms now)
+    ∙ sum_by_push (λ m. cond (near (raised ms now) m) 1 0) ms (raised ms now) in
+    let one = one_or_none (near (raised ms now) (raised ms now)) in
+    let at_most : window (ms ++ raised ms now ∷ []) now ≤ max_starts = omega (arith, more, one, few) in
+    subst (λ moments. window moments now ≤ max_starts) (sym own) at_most

@@ -1,23 +1,17 @@
 -- The bounds that a history keeps.
 use Rattle.std.specs.Prelude.{ℕ, ◌-◌, ◌^◌, List, [], ◌∷◌}
 use Rattle.std.specs.Prelude.{zero, suc}
-
--- how many neighbours and how many helpers there are at most
-abbrev pub max_peers : ℕ
-max_peers = 64
-
-abbrev pub max_helpers : ℕ
-max_helpers = 16
+use Rattle.config_model.specs.Limits.{max_peers}
 
 -- how many route nodes there are at most, over all neighbours
 abbrev pub max_nodes : ℕ
 max_nodes = 4194304
 
--- how many replies wait for a helper at most
+-- how many replies wait for a helper at most, which is what a queue of ack_queue holds
 abbrev pub max_queued : ℕ
 max_queued = 1024
 
--- how many of them are taken at once
+-- how many of them are taken at once, as there
 abbrev pub max_taken : ℕ
 max_taken = 64
 
@@ -25,12 +19,9 @@ max_taken = 64
 abbrev pub max_shown : ℕ
 max_shown = 1023
 
--- how many starts of a helper may lie within how many milliseconds
+-- how many starts of a helper may lie within the window of respawn_window
 abbrev pub max_starts : ℕ
 max_starts = 5
-
-abbrev pub window_ms : ℕ
-window_ms = 60000
 
 -- how often a slot's helpers are started at most
 abbrev pub max_incarnations : ℕ

@@ -2,11 +2,12 @@
 use Rattle.std.specs.Prelude.{ℕ, ◌≡◌, ◌+◌, ◌≤◌, List, ◌∷◌, length}
 use Rattle.arrayvec.specs.ArrayVec.{ArrayVec}
 use Rattle.config_model.specs.Sections.{Sections}
+use Rattle.respawn_window.specs.Starts.{window}
 use Rattle.book_history.specs.declared.outcomes.Spawn.TheVariants as spawn
 use Rattle.book_history.specs.Bounds.{max_queued, max_starts}
 use Rattle.book_history.specs.Entries.{History}
 use Rattle.book_history.specs.Entries.Entry.{SpawnAsked}
-use Rattle.book_history.specs.Helpers.{in_window, starts, starts_counted}
+use Rattle.book_history.specs.Helpers.{starts, starts_counted}
 use Rattle.book_history.specs.Legal.{IsLegal}
 use Rattle.book_history.specs.Replies.{queued}
 
@@ -24,4 +25,4 @@ IncarnationsCount = (cfg : Sections) (H : History) (h now inc : ℕ) (run : Arra
 abbrev pub StartsAreFew : Type 0
 StartsAreFew = (cfg : Sections) (H : History) (h now inc : ℕ) (run : ArrayVec ℕ)
     → IsLegal cfg (SpawnAsked h now (spawn.Go inc run) ∷ H)
-    → in_window (starts cfg h (SpawnAsked h now (spawn.Go inc run) ∷ H)) now ≤ max_starts
+    → window (starts cfg h (SpawnAsked h now (spawn.Go inc run) ∷ H)) now ≤ max_starts

@@ -1,13 +1,11 @@
 -- One helper slot: its incarnations and its starts.
-use Rattle.std.specs.Prelude.{ℕ, ◌==◌, ◌+◌, ◌-◌, ◌&&◌, Bool, true, false, List, [], ◌∷◌, if◌then◌else◌, nat_lt, Option}
-use Rattle.std.specs.Prelude.{Some, None, max}
+use Rattle.std.specs.Prelude.{ℕ, ◌==◌, ◌+◌, ◌&&◌, Bool, true, false, List, [], ◌∷◌, if◌then◌else◌, Option, Some, None}
 use Rattle.std.specs.Bool.{beq}
-use Rattle.std.specs.List.{count_by}
 use Rattle.config_model.specs.declared.sections.Process.{Process}
 use Rattle.config_model.specs.Sections.{Sections, same_name}
+use Rattle.respawn_window.specs.Starts.{with_start}
 use Rattle.book_history.specs.declared.outcomes.Reload.TheVariants as reload
 use Rattle.book_history.specs.declared.outcomes.Spawn.TheVariants as spawn
-use Rattle.book_history.specs.Bounds.{window_ms}
 use Rattle.book_history.specs.Entries.{History}
 use Rattle.book_history.specs.Entries.Entry.{HelperDeaf, HelperGone, SpawnAsked, Reloaded}
 use Rattle.book_history.specs.Slots.{process_at, same_process_name}
@@ -80,22 +78,13 @@ is_present NoChild = false
 is_present (Running own) = true
 is_present (Deaf own) = true
 
--- a moment, or the one before it where that is greater
-abbrev pub raised : ℕ → List ℕ → ℕ
-raised now [] = now
-raised now (m ∷ ms) = max now m
-
--- the moments of the starts since the slot's process was placed or changed, as raised, the newest first
+-- the moments of the starts since the slot's process was placed or changed, the first one first; a moment below the
+-- greatest of those before it counts as that
 abbrev pub starts : Sections → ℕ → History → List ℕ
 starts cfg h [] = []
-starts cfg h (SpawnAsked k now (spawn.Go inc run) ∷ H) =
-    if k == h then raised now (starts cfg h H) ∷ starts cfg h H else starts cfg h H
+starts cfg h (SpawnAsked k now (spawn.Go inc run) ∷ H) = with_start (k == h) (starts cfg h H) now
 starts cfg h (Reloaded new reload.Ok ∷ H) = if leaves cfg H new h then starts cfg h H else []
 starts cfg h (_ ∷ H) = starts cfg h H
-
--- how many of them are less than a minute before a moment
-abbrev pub in_window : List ℕ → ℕ → ℕ
-in_window moments now = count_by (λ m. nat_lt (raised now moments - m) window_ms) moments
 
 -- whether the slot was given up since its process was placed or changed
 abbrev pub is_given_up : Sections → ℕ → History → Bool

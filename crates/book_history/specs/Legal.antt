@@ -12,6 +12,7 @@ use Rattle.config_model.specs.declared.sections.Process.{Process}
 use Rattle.config_model.specs.Plan.{same_settings}
 use Rattle.config_model.specs.Sections.{Sections}
 use Rattle.peer_history.specs.Cuts.{MayAnswer}
+use Rattle.respawn_window.specs.Starts.{window}
 use Rattle.book_history.specs.declared.outcomes.Control.{Control}
 use Rattle.book_history.specs.declared.outcomes.Control.TheVariants as control
 use Rattle.book_history.specs.declared.outcomes.Cut.{Cut}
@@ -33,13 +34,13 @@ use Rattle.book_history.specs.Entries.{Entry, History}
 use Rattle.book_history.specs.Entries.Entry.{LineEntered, RepliesTaken, HelperDeaf, HelperGone, SpawnAsked, PeerAsked}
 use Rattle.book_history.specs.Entries.Entry.{CameUp, WentDown, RefreshAsked, MessageCut, ControlAsked, Reloaded}
 use Rattle.book_history.specs.Entries.Entry.{ReloadRefused, Stopped}
-use Rattle.book_history.specs.Helpers.{child, in_window, is_given_up, is_present, is_running, last_inc, starts}
+use Rattle.book_history.specs.Helpers.{child, is_given_up, is_present, last_inc, starts}
 use Rattle.book_history.specs.Helpers.{starts_counted}
 use Rattle.book_history.specs.Nodes.{nodes}
 use Rattle.book_history.specs.PeerSteps.{answer_of, steps_of}
 use Rattle.book_history.specs.Replies.{queued}
 use Rattle.book_history.specs.Slots.{neighbor_at, process_at}
-use Rattle.book_history.specs.Verdicts.{is_stopping, line_verdict, may_lack_memory}
+use Rattle.book_history.specs.Verdicts.{is_late, is_stopping, line_verdict, may_lack_memory}
 
 -- a line has the verdict that is defined, or want of memory where that may stand in its place
 abbrev pub IsVerdict : Sections → History → ℕ → ℕ → Line → Result Command ReadFault → Verdict → Type 0
@@ -51,16 +52,12 @@ IsVerdict cfg H h inc line reading given =
 abbrev pub AllowsLine : Sections → History → ℕ → ℕ → Line → Result Command ReadFault → Verdict → Type 0
 AllowsLine cfg H h inc line reading given = Says line reading × IsVerdict cfg H h inc line reading given
 
--- whether nothing more can come for an incarnation whose queue is empty
-abbrev pub is_over : Sections → History → ℕ → ℕ → Bool
-is_over cfg H h inc = not (is_running (child cfg h H) inc) || is_stopping H
-
 -- replies are taken off the front, 64 or all
 abbrev pub AllowsTake : Sections → History → ℕ → ℕ → Take → Type 0
 AllowsTake cfg H h inc take.Ended =
-    IsTrue (not (inc == last_inc h H) || (length (queued cfg h inc H) == 0 && is_over cfg H h inc))
+    IsTrue (not (inc == last_inc h H) || (length (queued cfg h inc H) == 0 && is_late cfg H h inc))
 AllowsTake cfg H h inc take.Nothing =
-    IsTrue (inc == last_inc h H && length (queued cfg h inc H) == 0 && not (is_over cfg H h inc))
+    IsTrue (inc == last_inc h H && length (queued cfg h inc H) == 0 && not (is_late cfg H h inc))
 AllowsTake cfg H h inc (take.Replies given) =
     IsTrue (inc == last_inc h H && not (length (queued cfg h inc H) == 0))
     × (given.items ≡ Rattle.std.specs.Prelude.take max_taken (queued cfg h inc H))
@@ -72,7 +69,7 @@ is_spent process moments = not process.respawn && not (length moments == 0)
 -- whether a slot's process is given up, or is by now
 abbrev pub gives_up : Sections → History → ℕ → ℕ → Process → Bool
 gives_up cfg H h now process =
-    is_given_up cfg h H || not (nat_lt (in_window (starts cfg h H) now) max_starts)
+    is_given_up cfg h H || not (nat_lt (window (starts cfg h H) now) max_starts)
     || is_spent process (starts cfg h H) || starts_counted h H == max_incarnations
 
 -- the answer for a slot with this process

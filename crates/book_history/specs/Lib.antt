@@ -12,3 +12,11 @@ pub mod Verdicts
 pub mod Legal
 pub mod Headline
 pub mod HelperLaws
+pub mod DecisionLaws
+pub mod Samples
+pub mod BatchExamples
+pub mod HelperExamples
+pub mod ReloadExamples
+pub mod EndExamples
+pub mod LegalExamples
+pub mod Refusals

@@ -53,7 +53,7 @@ reading_verdict cfg H h inc line (Err read.NoMemory) = Error why.NoMemory
 reading_verdict cfg H h inc line (Ok given) = command_verdict cfg H h inc given
     (nodes cfg (LineEntered h inc line (Ok given) Done ∷ H)) (length (shown cfg H h given))
 
--- whether a line comes too late: its incarnation doesn't run, or the daemon ends
+-- whether it is too late for an incarnation: it doesn't run, or the daemon ends
 abbrev pub is_late : Sections → History → ℕ → ℕ → Bool
 is_late cfg H h inc = not (is_running (child cfg h H) inc) || is_stopping H
 

@@ -1,6 +1,12 @@
 //! The laws of legal histories.
+ghost use Rattle.std.specs.Prelude.{◌≡◌};
+ghost use Rattle.book_history.specs.Bounds.{max_queued, max_taken};
+ghost use Rattle.book_history.specs.DecisionLaws.{FilesAreDecided, ProcessesAreDecided};
+ghost use Rattle.book_history.specs.DecisionLaws.{SlotsAreDecided};
 ghost use Rattle.book_history.specs.Headline.{NothingPending, SessionsAddNoNode, WholeBatches};
 ghost use Rattle.book_history.specs.HelperLaws.{IncarnationsCount, QueuesAreBounded, StartsAreFew};
+
+use ack_queue::{MAX_QUEUED, MAX_TAKEN};
 
 /// The headline: over every legal history, of whatever events, each whole batch that was cut for a neighbour leaves at
 /// it exactly the table of the history up to the batch's first cut. The batch names just the keys and the markers that
@@ -20,9 +26,11 @@ pub fn nothing_pending()
 }
 
 /// A helper slot: no more replies wait than its queue holds, its incarnations count from 1, and of the starts since its
-/// process was placed or changed no more than five lie within a minute.
+/// process was placed or changed no more than five lie within a minute. The bounds of a queue are those of `ack_queue`.
 pub fn helpers_are_bounded()
     ensures queues { QueuesAreBounded }
+    ensures queue_room { max_queued ≡ MAX_QUEUED }
+    ensures taken_at_once { max_taken ≡ MAX_TAKEN }
     ensures incarnations { IncarnationsCount }
     ensures starts { StartsAreFew }
 {}
@@ -34,3 +42,12 @@ pub fn nodes_stay()
 {
     peer_history::nodes_stay();
 }
+
+/// The definitions' own tests, and what they decide: a slot's neighbour is selected exactly where `config_model` says
+/// so of the two sections; before any reload the slots are the places of the file; and a process's section is left as
+/// it was exactly where it is the same.
+pub fn tests_decide()
+    ensures selection { SlotsAreDecided }
+    ensures file { FilesAreDecided }
+    ensures processes { ProcessesAreDecided }
+{}

@@ -3,11 +3,17 @@
 //! The definitions stand in `specs`: slots and what a reload does to them, the neighbours that a command selects, the
 //! table that each neighbour is to have, helpers with their starts and replies, and route nodes. What happens to one
 //! neighbour is told by the crate `peer_history`, on which the law of whole batches rests. Nothing here does anything:
-//! the types are the answers of events, and each function is empty, with a law of the definitions as its contract.
+//! the types are the answers of events, and each function is empty, with a law of the definitions or a group of worked
+//! examples as its contract.
 #![tactic(auto)]
 
+mod examples;
 mod laws;
 mod outcomes;
 
-pub use laws::{helpers_are_bounded, nodes_stay, nothing_pending, whole_batches};
+pub use examples::{
+    batches_work, ends_work, helpers_work, reloads_work, two_batches_are_legal,
+    wrong_answers_are_refused,
+};
+pub use laws::{helpers_are_bounded, nodes_stay, nothing_pending, tests_decide, whole_batches};
 pub use outcomes::{Control, Cut, NotRead, Peer, Reload, Spawn, Take, Up, Verdict, Why};

@@ -1,7 +1,7 @@
 //! What events are answered.
-use ack_queue::Reply;
+use ack_queue::{MAX_TAKEN, Reply};
 use arrayvec::ArrayVec;
-use config_model::ConfigFault;
+use config_model::{ConfigFault, MAX_RUN};
 use route_grammar::LineFault;
 use route_values::Settings;
 
@@ -41,7 +41,7 @@ pub enum Take {
     /// Nothing waits.
     Nothing,
     /// The first replies that waited.
-    Replies(ArrayVec<Reply, 64>),
+    Replies(ArrayVec<Reply, MAX_TAKEN>),
 }
 
 /// Whether a helper may be started.
@@ -56,7 +56,10 @@ pub enum Spawn {
     /// The slot's process was started too often, or isn't to be started again.
     GiveUp,
     /// It is to be started by these words, joined by zero bytes, as this incarnation.
-    Go { inc: u64, run: ArrayVec<u8, 1024> },
+    Go {
+        inc: u64,
+        run: ArrayVec<u8, MAX_RUN>,
+    },
 }
 
 /// Which neighbour is in a slot.
