@@ -1,9 +1,7 @@
 -- The law of whole batches, slot by slot.
-use Rattle.std.proofs.Common.{◌≡◌, ℕ, ◌+◌, ◌≤◌, true, List, [], ◌∷◌, ◌++◌, length, Some, refl, sym, ap, ◌∙◌, subst}
+use Rattle.std.proofs.Common.{◌≡◌, ℕ, true, List, [], ◌∷◌, ◌++◌, refl, ap, ◌∙◌, subst}
 use Rattle.std.proofs.Common.{eq-eqb}
-use Rattle.std.specs.Prelude.{◌==◌, if◌then◌else◌}
-use Rattle.route_values.specs.Caps.{Caps}
-use Rattle.update_grammar.specs.Packed.{ArePacked}
+use Rattle.std.specs.Prelude.{if◌then◌else◌}
 use Rattle.config_model.specs.Sections.{Sections}
 use Rattle.peer_history.specs.Batches.{first_cut, is_owed, is_marker_owed}
 use Rattle.peer_history.specs.Cuts as of_slot

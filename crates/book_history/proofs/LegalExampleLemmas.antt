@@ -1,16 +1,13 @@
 -- The history of two batches is legal, entry by entry.
 use Rattle.std.proofs.Common.{◌≡◌, ℕ, ◌<◌, ◌≤◌, true, false, List, [], ◌∷◌, length, Some, None, refl, ap, arith, inl}
 use Rattle.std.specs.Prelude.{◌^◌, Option, unwrap_or}
-use Rattle.std.specs.List.{AllByRecursion}
 use Rattle.route_values.specs.declared.addr.Family.{Family}
 use Rattle.route_values.specs.declared.addr.Family.TheVariants.{Ipv4, Ipv6}
 use Rattle.route_values.specs.declared.attrs.WireAttrs.{WireAttrs}
-use Rattle.route_values.specs.declared.key.Key.{Key}
 use Rattle.text_forms.specs.Lines.{Line}
 use Rattle.update_grammar.specs.Head as head
 use Rattle.update_grammar.specs.Laws.{HereIsSpelled, EndIsSpelled}
-use Rattle.update_grammar.specs.Update.{Spells, here_all}
-use Rattle.update_grammar.specs.Written.{body_of, IsSendable, IsCarried}
+use Rattle.update_grammar.specs.Written.{IsSendable, IsCarried}
 use Rattle.update_grammar.specs.ReadAttributes.{raw_at, value_in, attr_of, attrs_in}
 use Rattle.update_grammar.specs.ReadPrefixes.{key_at, keys_in}
 use Rattle.update_grammar.specs.ReadUpdate.{field_at, effects_of, fields_in, effects_in}

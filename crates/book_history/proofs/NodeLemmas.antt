@@ -1,11 +1,10 @@
 -- Sessions and their messages add no route node.
-use Rattle.std.proofs.Common.{◌≡◌, ℕ, ◌+◌, ◌≤◌, Bool, true, false, List, [], ◌∷◌, ◌++◌, length, refl, sym, ap, ◌∙◌}
+use Rattle.std.proofs.Common.{◌≡◌, ℕ, ◌≤◌, Bool, true, false, List, [], ◌∷◌, ◌++◌, length, refl, sym}
 use Rattle.std.proofs.Common.{subst}
 use Rattle.std.proofs.Common.{arith}
 use Rattle.std.specs.Prelude.{◌==◌, if◌then◌else◌, filter}
 use Rattle.std.specs.List.{sum_by}
 use Rattle.std.proofs.lemmas.List.Sums.{sum_by-cons}
-use Rattle.route_values.specs.declared.addr.Family.{Family}
 use Rattle.route_values.specs.declared.key.Key.{Key}
 use Rattle.route_values.specs.declared.settings.Settings.{Settings}
 use Rattle.route_values.specs.Caps.{Caps}
@@ -16,14 +15,12 @@ use Rattle.peer_history.specs.Nodes.{is_node}
 use Rattle.peer_history.specs.Ordered.{asked_for, in_order, node_keys}
 use Rattle.peer_history.specs.Steps.{Step}
 use Rattle.peer_history.specs.Steps as step
-use Rattle.book_history.specs.declared.outcomes.Cut.{Cut}
 use Rattle.book_history.specs.declared.outcomes.Up.{Up}
 use Rattle.book_history.specs.declared.outcomes.Up.TheVariants as up
 use Rattle.book_history.specs.Bounds.{peer_numbers}
-use Rattle.book_history.specs.Entries.{Entry, History}
+use Rattle.book_history.specs.Entries.{History}
 use Rattle.book_history.specs.Entries.Entry.{CameUp, WentDown, RefreshAsked, MessageCut}
 use Rattle.book_history.specs.Headline.{AddsNoNode, SessionsAddNoNode}
-use Rattle.book_history.specs.Legal.{IsLegal}
 use Rattle.book_history.specs.PeerSteps.{step_if, answer_of, steps_of}
 use Rattle.book_history.proofs.StepLemmas.{steps_legal}
 

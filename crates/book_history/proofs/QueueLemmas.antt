@@ -1,8 +1,7 @@
 -- A queue of replies never passes its bound.
-use Rattle.std.proofs.Common.{◌≡◌, ℕ, ◌+◌, ◌-◌, ◌<◌, ◌≤◌, Bool, true, false, not, List, [], ◌∷◌, ◌++◌, length, Some}
-use Rattle.std.proofs.Common.{None}
+use Rattle.std.proofs.Common.{◌≡◌, ℕ, ◌+◌, ◌-◌, ◌<◌, ◌≤◌, Bool, true, false, not, List, [], ◌∷◌, ◌++◌, length}
 use Rattle.std.proofs.Common.{Ok, Err, refl, sym, ap, ◌∙◌, subst, inl, inr, arith, eqb-true, eq-eqb, length-append}
-use Rattle.std.specs.Prelude.{◌==◌, ◌&&◌, ◌||◌, ◌⊎◌, if◌then◌else◌, nat_lt, min, take, drop, map, Option, Result}
+use Rattle.std.specs.Prelude.{◌==◌, ◌&&◌, ◌||◌, if◌then◌else◌, nat_lt, drop, Result}
 use Rattle.std.specs.Prelude.{IsTrue}
 use Rattle.std.proofs.lemmas.Bool.{and_parts, and_from, both_ways, not-true}
 use Rattle.std.proofs.lemmas.Bool.Decides.{Decides-ltb, not_from_Decides}
@@ -21,9 +20,8 @@ use Rattle.book_history.specs.declared.outcomes.Take.{Take}
 use Rattle.book_history.specs.declared.outcomes.Take.TheVariants as take
 use Rattle.book_history.specs.declared.outcomes.Verdict.{Verdict}
 use Rattle.book_history.specs.declared.outcomes.Verdict.TheVariants as verdict
-use Rattle.book_history.specs.declared.outcomes.Why.TheVariants as why
 use Rattle.book_history.specs.Bounds.{max_nodes, max_queued, max_shown, max_taken}
-use Rattle.book_history.specs.Entries.{Entry, History}
+use Rattle.book_history.specs.Entries.{History}
 use Rattle.book_history.specs.Entries.Entry.{LineEntered, RepliesTaken, HelperDeaf, HelperGone, SpawnAsked, Reloaded}
 use Rattle.book_history.specs.HelperLaws.{QueuesAreBounded}
 use Rattle.book_history.specs.Helpers.{Child, child, deafened, is_running, leaves, starts_counted, without}
@@ -36,7 +34,7 @@ use Rattle.book_history.specs.Shows.{shown}
 use Rattle.book_history.specs.Verdicts.{command_verdict, is_late, line_verdict, matches_none, may_lack_memory}
 use Rattle.book_history.specs.Verdicts.{overflows}
 use Rattle.book_history.specs.Verdicts.{is_stopping, reading_verdict}
-use Rattle.book_history.proofs.StartLemmas.{incarnations_count, second_is, not_false, neither}
+use Rattle.book_history.proofs.StartLemmas.{incarnations_count, second_is}
 
 one_reply : (on : Bool) (given : Reply) → length (reply_if on given) ≤ 1
 one_reply true given = omega arith
@@ -74,7 +72,7 @@ taken_by cfg H h inc line reading given no_end no_wait e =
     let second = second_is (length (queued cfg h inc H) == max_queued) _ _ given no_wait first.1 in
     (record { timely = first.0; room = second.0 }, second.1)
 
-lacking : (cfg : Sections) (H : History) (h inc : ℕ) → IsTrue (may_lack_memory cfg H h inc) → IsTaken cfg H h inc
+pub lacking : (cfg : Sections) (H : History) (h inc : ℕ) → IsTrue (may_lack_memory cfg H h inc) → IsTaken cfg H h inc
 lacking cfg H h inc may =
     let both = and_parts _ _ may in record { timely = not-true _ both.0; room = not-true _ both.1 }
 

@@ -1,7 +1,7 @@
 -- The wrong answers are refused: by what a whole batch leaves, by what is so where nothing is to be sent, or directly.
-use Rattle.std.proofs.Common.{◌≡◌, ℕ, ◌<◌, true, false, [], ◌∷◌, length, Some, None, refl, sym, ap, arith, inl, inr}
+use Rattle.std.proofs.Common.{◌≡◌, ℕ, [], ◌∷◌, length, Some, None, refl, sym, ap, arith, inl, inr}
 use Rattle.std.proofs.Common.{eq-eqb}
-use Rattle.std.specs.Prelude.{◌==◌, Option, Result, unwrap_or}
+use Rattle.std.specs.Prelude.{Option, unwrap_or}
 use Rattle.route_values.specs.declared.attrs.WireAttrs.{WireAttrs}
 use Rattle.text_forms.specs.Lines.{Line}
 use Rattle.update_grammar.specs.ReadAttributes.{raw_at, value_in, attr_of, attrs_in}
@@ -10,11 +10,8 @@ use Rattle.update_grammar.specs.ReadUpdate.{field_at, effects_of, fields_in, eff
 use Rattle.update_grammar.specs.ReadValues.{origin_in, number_in, part_at, path_in}
 use Rattle.update_grammar.specs.Steps.{each_of}
 use Rattle.update_grammar.specs.Written.{attributes_text}
-use Rattle.route_grammar.specs.declared.fault.ReadFault.{ReadFault}
 use Rattle.command_grammar.specs.declared.command.Command.{Command}
-use Rattle.config_model.specs.Sections.{Sections}
 use Rattle.book_history.specs.declared.outcomes.Reload.TheVariants as reload
-use Rattle.book_history.specs.declared.outcomes.Verdict.TheVariants as verdict
 use Rattle.book_history.specs.Bounds.{max_queued}
 use Rattle.book_history.specs.Entries.Entry.{Reloaded, WentDown}
 use Rattle.book_history.specs.Headline.{WholeBatches, NothingPending}
@@ -24,16 +21,16 @@ use Rattle.book_history.specs.Refusals.{static_lost, one_sent}
 use Rattle.book_history.specs.Replies.{queued}
 use Rattle.book_history.specs.Samples.{one, first, second, bare, with_med, wire, only_ipv4, here, gone, marker}
 use Rattle.book_history.specs.Samples.{announce, done, comes_up, begun, sent_one}
-use Rattle.book_history.proofs.QueueLemmas.{IsTaken, taken_by}
+use Rattle.book_history.proofs.QueueLemmas.{lacking, taken_by}
 
 pub full_queue_waits : FullQueueWaits
-full_queue_waits cfg H h inc line reading full legal may =
+full_queue_waits cfg H h inc line reading given full no_end no_wait legal may =
+    let yes = eq-eqb (length (queued cfg h inc H)) max_queued full in
     elim may.1 [
       | inl is ↦
-          let taken = taken_by cfg H h inc line reading verdict.Done (λ e. cc) (λ e. cc) (sym is) in
-          let room = taken.0.room in
-          let yes = eq-eqb (length (queued cfg h inc H)) max_queued full in cc
-      | inr lacks ↦ let other = lacks.0 in cc
+          let taken = taken_by cfg H h inc line reading given (λ e. no_end (sym e)) (λ e. no_wait (sym e)) (sym is) in
+          let room = taken.0.room in cc
+      | inr lacks ↦ let room = (lacking cfg H h inc lacks.1).room in cc
     ]
 
 -- the MED of a value, or 0

@@ -1,17 +1,16 @@
 -- The tests of selection and of processes decide what config_model defines.
-use Rattle.std.proofs.Common.{◌≡◌, ℕ, ◌<◌, Bool, true, false, List, [], ◌∷◌, Some, None, refl, sym, ap, ◌∙◌, subst}
+use Rattle.std.proofs.Common.{◌≡◌, ℕ, ◌<◌, Bool, true, List, [], ◌∷◌, Some, None, refl, sym, ap, ◌∙◌, subst}
 use Rattle.std.proofs.Common.{arith, inl, inr, eqb-true, eq-eqb, length}
-use Rattle.std.specs.Prelude.{◌==◌, ◌&&◌, ◌||◌, ◌⊎◌, ⊤, map, nat_eq, zero, suc, Option, Any, IfSome, IsTrue, IsSomeAnd}
+use Rattle.std.specs.Prelude.{◌||◌, ◌⊎◌, map, nat_eq, zero, suc, Option, Any, IfSome, IsSomeAnd}
 use Rattle.std.specs.Prelude.{slice_get}
-use Rattle.std.specs.Bool.{Decides, beq}
+use Rattle.std.specs.Bool.{Decides}
 use Rattle.std.specs.Cmp.{booleans_Decides}
 use Rattle.std.specs.Cmp.Lexicographic.{pointwise}
 use Rattle.std.specs.List.{list_any, slice_index_or}
 use Rattle.std.specs.Option.{option_and_then, option_map}
-use Rattle.std.proofs.lemmas.Bool.{and_parts, and_from}
-use Rattle.std.proofs.lemmas.Bool.Decides.{Decides-and, Decides-or, Decides-at, Decides-like, Decides-eqb}
+use Rattle.std.proofs.lemmas.Bool.{and_from}
+use Rattle.std.proofs.lemmas.Bool.Decides.{Decides-and, Decides-or, Decides-at, Decides-like}
 use Rattle.std.proofs.lemmas.Option.{slice_get-map}
-use Rattle.route_values.specs.declared.addr.Addr.{Addr}
 use Rattle.route_values.specs.declared.addr.Family.{Family}
 use Rattle.route_values.specs.declared.pick.Pick.{Pick}
 use Rattle.route_values.specs.declared.settings.Settings.{Settings}
@@ -22,14 +21,14 @@ use Rattle.route_values.proofs.KeyLemmas.{same_addr_is, same_addr-self}
 use Rattle.arrayvec.specs.ArrayVec.{ArrayVec}
 use Rattle.config_model.specs.declared.sections.Neighbor.{Neighbor}
 use Rattle.config_model.specs.declared.sections.Process.{Process}
-use Rattle.config_model.specs.Sections.{Sections, same_name}
-use Rattle.config_model.specs.Selected.{Hears, IsSelected, IsSelectedAt}
+use Rattle.config_model.specs.Sections.{same_name}
+use Rattle.config_model.specs.Selected.{Hears, IsSelected}
 use Rattle.peer_history.specs.Same.{same_family}
 use Rattle.peer_history.proofs.SameLemmas.{same_family_is, same_family-self, list_is, number_is}
 use Rattle.book_history.specs.DecisionLaws.{SlotsAreDecided, FilesAreDecided, ProcessesAreDecided}
 use Rattle.book_history.specs.Helpers.{same_process}
-use Rattle.book_history.specs.Selecting.{is_so, is_match, is_picked, has_own_hop, is_selected, selects_by}
-use Rattle.book_history.specs.Slots.{neighbor_at, process_at, same_process_name, slot}
+use Rattle.book_history.specs.Selecting.{is_so, is_match, is_picked, has_own_hop, is_selected}
+use Rattle.book_history.specs.Slots.{neighbor_at, slot}
 
 -- a test of two values decides whether they are the same
 abbrev IsTest : {A : Type 0} → (A → A → Bool) → Type 0

@@ -1,11 +1,9 @@
 -- A history, and the steps of one of its neighbour slots.
-use Rattle.std.proofs.Common.{◌≡◌, ℕ, Bool, true, false, not, List, [], ◌∷◌, ◌++◌, Some, None, Ok, refl, sym, ap, ◌∙◌}
+use Rattle.std.proofs.Common.{◌≡◌, ℕ, Bool, true, false, not, List, [], ◌∷◌, ◌++◌, Some, None, Ok, refl, ap, ◌∙◌}
 use Rattle.std.proofs.Common.{subst}
 use Rattle.std.proofs.Common.{eqb-true}
 use Rattle.std.specs.Prelude.{◌==◌, ⊤, if◌then◌else◌, Option, unwrap_or}
 use Rattle.std.specs.Option.{option_map}
-use Rattle.route_values.specs.declared.key.Key.{Key}
-use Rattle.route_values.specs.Caps.{Caps}
 use Rattle.command_grammar.specs.declared.command.Command.{Command}
 use Rattle.command_grammar.specs.declared.command.Command.TheVariants as command
 use Rattle.config_model.specs.declared.sections.Neighbor.{Neighbor}
@@ -18,12 +16,11 @@ use Rattle.peer_history.specs.Steps.{Step, Answer}
 use Rattle.peer_history.specs.Steps.Step.{Announced, Withdrawn, Cleared, Placed, Kept, Vacated, Up, Down, Ended}
 use Rattle.peer_history.specs.Steps.Step.{Refreshed, Cut}
 use Rattle.peer_history.specs.Steps as step
-use Rattle.book_history.specs.declared.outcomes.Cut.{Cut as Cutting}
 use Rattle.book_history.specs.declared.outcomes.Cut.TheVariants as cut
 use Rattle.book_history.specs.declared.outcomes.Reload.TheVariants as reload
 use Rattle.book_history.specs.declared.outcomes.Up.TheVariants as up
 use Rattle.book_history.specs.declared.outcomes.Verdict.TheVariants as verdict
-use Rattle.book_history.specs.Entries.{Entry, History}
+use Rattle.book_history.specs.Entries.{History}
 use Rattle.book_history.specs.Entries.Entry.{LineEntered, CameUp, WentDown, RefreshAsked, MessageCut, Reloaded, Stopped}
 use Rattle.book_history.specs.Legal.{IsLegal}
 use Rattle.book_history.specs.Peers.{opened_at, first_cut_at}

@@ -1,5 +1,5 @@
 -- Worked examples of a helper slot: its end, its starts, and its replies.
-use Rattle.std.specs.Prelude.{ℕ, ◌≡◌, false, codes, [], ◌∷◌, Result, Ok, Err}
+use Rattle.std.specs.Prelude.{◌≡◌, false, codes, [], ◌∷◌, Result, Ok, Err}
 use Rattle.text_forms.specs.Lines.{Line, Text}
 use Rattle.route_grammar.specs.declared.fault.LineFault.TheVariants as fault
 use Rattle.route_grammar.specs.declared.fault.ReadFault.{ReadFault}

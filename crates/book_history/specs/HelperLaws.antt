@@ -1,5 +1,5 @@
 -- What a legal history tells of a helper slot.
-use Rattle.std.specs.Prelude.{ℕ, ◌≡◌, ◌+◌, ◌≤◌, List, ◌∷◌, length}
+use Rattle.std.specs.Prelude.{ℕ, ◌≡◌, ◌+◌, ◌≤◌, ◌∷◌, length}
 use Rattle.arrayvec.specs.ArrayVec.{ArrayVec}
 use Rattle.config_model.specs.Sections.{Sections}
 use Rattle.respawn_window.specs.Starts.{window}

@@ -15,7 +15,6 @@ use Rattle.peer_history.specs.Cuts.{MayAnswer}
 use Rattle.respawn_window.specs.Starts.{window}
 use Rattle.book_history.specs.declared.outcomes.Control.{Control}
 use Rattle.book_history.specs.declared.outcomes.Control.TheVariants as control
-use Rattle.book_history.specs.declared.outcomes.Cut.{Cut}
 use Rattle.book_history.specs.declared.outcomes.Peer.{Peer}
 use Rattle.book_history.specs.declared.outcomes.Peer.TheVariants as peer
 use Rattle.book_history.specs.declared.outcomes.Reload.{Reload}

@@ -4,7 +4,6 @@ use Rattle.route_values.specs.declared.addr.Family.TheVariants.{Ipv4, Ipv6}
 use Rattle.command_grammar.specs.declared.command.Command.{Command}
 use Rattle.command_grammar.specs.declared.command.Command.TheVariants as command
 use Rattle.config_model.specs.declared.sections.Neighbor.{Neighbor}
-use Rattle.config_model.specs.declared.sections.StaticRoute.{StaticRoute}
 use Rattle.config_model.specs.Plan.{same_settings}
 use Rattle.config_model.specs.Sections.{Sections}
 use Rattle.peer_history.specs.Steps.{Step, Static, Code, Answer}

@@ -1,5 +1,5 @@
 -- A neighbour slot in a history: the table that it is to have, its session, and its batches.
-use Rattle.std.specs.Prelude.{ℕ, ◌==◌, List, [], ◌∷◌, if◌then◌else◌, Option, Some, None, unwrap_or}
+use Rattle.std.specs.Prelude.{ℕ, ◌==◌, [], ◌∷◌, if◌then◌else◌, Option, Some, None, unwrap_or}
 use Rattle.route_values.specs.declared.attrs.WireAttrs.{WireAttrs}
 use Rattle.route_values.specs.declared.key.Key.{Key}
 use Rattle.route_values.specs.Caps.{Caps}

@@ -1,11 +1,12 @@
 -- Answers that are wrong: each behind a short history, which with it isn't legal.
-use Rattle.std.specs.Prelude.{ℕ, ◌≡◌, ◌⊎◌, List, [], ◌∷◌, length, Option, Result}
+use Rattle.std.specs.Prelude.{ℕ, ◌≡◌, ◌≢◌, [], ◌∷◌, length, Result}
 use Rattle.text_forms.specs.Lines.{Line}
 use Rattle.route_grammar.specs.declared.fault.ReadFault.{ReadFault}
 use Rattle.command_grammar.specs.declared.command.Command.{Command}
 use Rattle.config_model.specs.Sections.{Sections, sections}
 use Rattle.book_history.specs.declared.outcomes.Reload.TheVariants as reload
 use Rattle.book_history.specs.declared.outcomes.Spawn.TheVariants as spawn
+use Rattle.book_history.specs.declared.outcomes.Verdict.{Verdict}
 use Rattle.book_history.specs.declared.outcomes.Verdict.TheVariants as verdict
 use Rattle.book_history.specs.Bounds.{max_queued}
 use Rattle.book_history.specs.Entries.{Entry, History}
@@ -22,10 +23,11 @@ use Rattle.book_history.specs.Samples.{sent_one}
 abbrev pub IsRefused : Sections → History → Entry → Type 0
 IsRefused cfg H wrong = IsLegal cfg H → ¬ (Allows cfg H wrong)
 
--- a full queue: a line that is done would take the place of a reply
+-- a full queue: a line that is taken would take the place of a reply
 abbrev pub FullQueueWaits : Type 0
 FullQueueWaits = (cfg : Sections) (H : History) (h inc : ℕ) (line : Line) (reading : Result Command ReadFault)
-    → length (queued cfg h inc H) ≡ max_queued → IsRefused cfg H (LineEntered h inc line reading verdict.Done)
+    (given : Verdict) → length (queued cfg h inc H) ≡ max_queued → given ≢ verdict.Ended → given ≢ verdict.Busy
+    → IsRefused cfg H (LineEntered h inc line reading given)
 
 -- the configuration whose neighbour has a static route
 abbrev pub with_static : Sections

@@ -3,7 +3,7 @@
 use Rattle.std.specs.Prelude.{ℕ, ◌+◌, ◌*◌, true, false, List, [], ◌∷◌, codes, Some, Ok}
 use Rattle.route_values.specs.declared.addr.Addr.{Addr}
 use Rattle.route_values.specs.declared.addr.Addr.TheVariants.{V4, V6}
-use Rattle.route_values.specs.declared.addr.Family.TheVariants.{Ipv4, Ipv6}
+use Rattle.route_values.specs.declared.addr.Family.TheVariants.{Ipv4}
 use Rattle.route_values.specs.declared.attrs.Attrs.{Attrs}
 use Rattle.route_values.specs.declared.attrs.WireAttrs.{WireAttrs}
 use Rattle.route_values.specs.declared.attrs.Hop.TheVariants.{Is}

@@ -1,12 +1,11 @@
 -- What is shown of tables.
-use Rattle.std.specs.Prelude.{ℕ, ◌==◌, ◌-◌, ◌/◌, ◌^◌, ◌&&◌, ◌≤◌, Bool, true, not, List, [], ◌∷◌, filter, nat_lt, nat_eq}
+use Rattle.std.specs.Prelude.{ℕ, ◌-◌, ◌/◌, ◌^◌, ◌&&◌, Bool, true, not, List, [], filter, nat_lt, nat_eq}
 use Rattle.std.specs.Prelude.{Option, Some, None, if◌then◌else◌}
 use Rattle.std.specs.List.{flat_map}
 use Rattle.std.specs.Option.{option_map, option_to_list}
 use Rattle.route_values.specs.declared.key.Key.{Key}
 use Rattle.route_values.specs.declared.settings.Settings.{Settings}
 use Rattle.route_values.specs.Addr.{family_of, number_of, width_of}
-use Rattle.route_values.specs.Key.{family_of_key}
 use Rattle.route_values.specs.Prefix.{Block}
 use Rattle.route_values.specs.Sent.{hop_sent}
 use Rattle.route_values.specs.Settings.{side_of}

@@ -1,7 +1,7 @@
 -- What becomes of a line: the first of these that holds.
-use Rattle.std.specs.Prelude.{ℕ, ◌==◌, ◌+◌, ◌&&◌, ◌||◌, Bool, true, false, not, nat_lt, List, [], ◌∷◌, length, Result}
+use Rattle.std.specs.Prelude.{ℕ, ◌==◌, ◌+◌, ◌&&◌, ◌||◌, Bool, true, false, not, nat_lt, [], ◌∷◌, length, Result}
 use Rattle.std.specs.Prelude.{Ok, Err}
-use Rattle.std.specs.Prelude.{if◌then◌else◌, Option, Some, None, is_some}
+use Rattle.std.specs.Prelude.{if◌then◌else◌, is_some}
 use Rattle.std.specs.List.{list_any}
 use Rattle.text_forms.specs.Lines.{Line}
 use Rattle.route_grammar.specs.declared.fault.ReadFault.{ReadFault}
