@@ -1,7 +1,7 @@
 -- What a batch has done so far, and what it has done when it is whole.
-use Rattle.std.proofs.Common.{◌≡◌, ℕ, ◌+◌, ◌<◌, ◌≤◌, Bool, true, false, not, List, [], ◌∷◌, ◌++◌, length, Some, None}
+use Rattle.std.proofs.Common.{◌≡◌, ℕ, ◌+◌, ◌≤◌, Bool, true, false, not, List, [], ◌∷◌, ◌++◌, length, Some, None}
 use Rattle.std.proofs.Common.{refl, sym, ap, ◌∙◌, subst, arith, length-append}
-use Rattle.std.specs.Prelude.{◌&&◌, ◌||◌, if◌then◌else◌, map, Option, unwrap_or, IsTrue}
+use Rattle.std.specs.Prelude.{◌&&◌, ◌||◌, if◌then◌else◌, map}
 use Rattle.std.specs.List.{AllByRecursion}
 use Rattle.std.proofs.lemmas.Bool.{and_parts, not-true}
 use Rattle.std.proofs.lemmas.Option.{same_Some}
@@ -15,12 +15,12 @@ use Rattle.update_grammar.specs.Head as head
 use Rattle.update_grammar.specs.Net.{net}
 use Rattle.update_grammar.specs.Packed.{named_by}
 use Rattle.peer_history.specs.Batches.{opened, first_cut, batch, is_owed, is_marker_owed, is_left, is_marker_left}
-use Rattle.peer_history.specs.Batches.{NoKeyLeft, NothingLeft}
+use Rattle.peer_history.specs.Batches.{NothingLeft}
 use Rattle.peer_history.specs.Cuts.{IsDue, MayCut, IsLegal}
 use Rattle.peer_history.specs.Keys.{is_named, times_named, AreSomeOf}
-use Rattle.peer_history.specs.Laws.{LeavesTheTable, WholeBatches, NothingPending, Settled}
+use Rattle.peer_history.specs.Laws.{WholeBatches, NothingPending, Settled}
 use Rattle.peer_history.specs.Messages.{said, mentions, marks, is_marked, times_marked, meant, value_given}
-use Rattle.peer_history.specs.Same.{same_family, differ}
+use Rattle.peer_history.specs.Same.{same_family}
 use Rattle.peer_history.specs.Sessions.{session, session_effects, peer}
 use Rattle.peer_history.specs.Steps.{Step}
 use Rattle.peer_history.specs.Steps.Step.{Up, Down, Cut}

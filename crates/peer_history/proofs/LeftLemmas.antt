@@ -1,6 +1,6 @@
 -- No key is left where none is of those that anyone asked for: so a history with few keys is looked through.
-use Rattle.std.proofs.Common.{◌≡◌, Bool, true, false, List, [], ◌∷◌, Some, None, refl, sym, ap, ◌∙◌, subst, inl, inr}
-use Rattle.std.specs.Prelude.{◌||◌, ◌⊎◌, Option, IsSome}
+use Rattle.std.proofs.Common.{◌≡◌, Bool, true, false, List, [], ◌∷◌, Some, None, refl, sym, ap, ◌∙◌, inl, inr}
+use Rattle.std.specs.Prelude.{◌⊎◌, Option, IsSome}
 use Rattle.std.specs.List.{list_any}
 use Rattle.std.proofs.lemmas.Bool.{and_parts, or_cases}
 use Rattle.route_values.specs.declared.attrs.WireAttrs.{WireAttrs}

@@ -1,20 +1,18 @@
 -- Sessions and their messages add no node.
-use Rattle.std.proofs.Common.{◌≡◌, Bool, true, false, List, [], ◌∷◌, Some, None, refl, sym, ap, ◌∙◌, subst, inl, inr}
+use Rattle.std.proofs.Common.{◌≡◌, Bool, true, false, List, ◌∷◌, Some, None, refl, sym, ap, ◌∙◌, subst, inl, inr}
 use Rattle.std.specs.Prelude.{◌||◌, ◌⊎◌, if◌then◌else◌, Option, unwrap_or, IsSome, is_some}
 use Rattle.std.specs.Option.{option_or}
 use Rattle.std.proofs.lemmas.Bool.{or_cases}
-use Rattle.std.proofs.lemmas.Option.{same_Some}
 use Rattle.route_values.specs.declared.addr.Family.{Family}
 use Rattle.route_values.specs.declared.key.Key.{Key}
 use Rattle.route_values.specs.declared.settings.Settings.{Settings}
 use Rattle.route_values.specs.Caps.{Caps}
 use Rattle.peer_history.specs.Batches.{opened, first_cut}
-use Rattle.peer_history.specs.Cuts.{IsLegal}
 use Rattle.peer_history.specs.Laws.{AddsNoNode, SessionsAddNoNode}
 use Rattle.peer_history.specs.Nodes.{is_targeted, is_held, is_node}
 use Rattle.peer_history.specs.Sessions.{session, reset, live, peer}
 use Rattle.peer_history.specs.Steps.{Step, Answer, Code}
-use Rattle.peer_history.specs.Steps.Step.{Up, Down, Ended, Refreshed, Cut}
+use Rattle.peer_history.specs.Steps.Step.{Ended, Refreshed, Cut}
 use Rattle.peer_history.specs.Steps.Answer.{NoSession, Reset, Nothing, Message}
 use Rattle.peer_history.specs.Table.{Route, want, settings_in, is_visible, route_sent, view}
 use Rattle.peer_history.proofs.MessageLemmas.{Grammar}

@@ -2,8 +2,7 @@
 use Rattle.std.proofs.Common.{◌≡◌, ℕ, ◌+◌, Bool, true, false, List, [], ◌∷◌, ◌++◌, Some, None, refl, sym, ap, ◌∙◌}
 use Rattle.std.proofs.Common.{subst}
 use Rattle.std.proofs.Common.{arith, inl, inr}
-use Rattle.std.specs.Prelude.{◌||◌, ◌⊎◌, map, filter, if◌then◌else◌, Option, unwrap_or, IsSome, is_some}
-use Rattle.std.specs.declared.cmp.Ordering.{Ordering}
+use Rattle.std.specs.Prelude.{◌||◌, map, filter, if◌then◌else◌, Option, unwrap_or, IsSome, is_some}
 use Rattle.std.specs.declared.cmp.Ordering.TheVariants.{Less, Equal, Greater}
 use Rattle.std.proofs.lemmas.Bool.{or_cases}
 use Rattle.std.proofs.lemmas.Option.{same_Some}
@@ -17,13 +16,13 @@ use Rattle.peer_history.specs.Cuts.{IsLegal}
 use Rattle.peer_history.specs.Keys.{is_named, times_named}
 use Rattle.peer_history.specs.Laws.{WantedAreListed, NodesAreListed}
 use Rattle.peer_history.specs.Nodes.{is_targeted, is_held, is_node}
-use Rattle.peer_history.specs.Ordered.{put_before, in_order, asked_for, wanted_keys, node_keys}
+use Rattle.peer_history.specs.Ordered.{put_before, in_order, asked_for}
 use Rattle.peer_history.specs.Sessions.{session, live, peer}
 use Rattle.peer_history.specs.Steps.{Step, Static}
 use Rattle.peer_history.specs.Steps.Step.{Announced, Withdrawn, Cleared, Placed, Kept, Vacated, Up, Down, Cut}
 use Rattle.peer_history.specs.Steps.Answer.{Message}
 use Rattle.peer_history.specs.Table.Owner.{Configuration, Helper}
-use Rattle.peer_history.specs.Table.{Route, want, static_at, is_of_helper, view}
+use Rattle.peer_history.specs.Table.{want, static_at, is_of_helper, view}
 use Rattle.peer_history.proofs.KeyLemmas.{is_named-append}
 use Rattle.peer_history.proofs.MessageLemmas.{Grammar}
 use Rattle.peer_history.proofs.NodeLemmas.{either, shown_wanted}

@@ -1,5 +1,5 @@
 -- What passes a test of equality is the same.
-use Rattle.std.proofs.Common.{ℕ, ◌≡◌, Bool, true, false, not, List, [], ◌∷◌, Some, None, refl, sym, ap, ◌∙◌, eqb-true}
+use Rattle.std.proofs.Common.{◌≡◌, Bool, true, false, not, [], ◌∷◌, Some, None, refl, ap, eqb-true}
 use Rattle.std.specs.Prelude.{◌&&◌, nat_eq, Option}
 use Rattle.std.specs.Bool.{beq}
 use Rattle.std.specs.Cmp.{booleans_Decides}
@@ -8,12 +8,8 @@ use Rattle.std.specs.Option.{option_eq}
 use Rattle.std.proofs.lemmas.Bool.{and_parts}
 use Rattle.route_values.specs.declared.addr.Family.{Family}
 use Rattle.route_values.specs.declared.addr.Family.TheVariants.{Ipv4, Ipv6}
-use Rattle.route_values.specs.declared.attrs.Aggregator.{Aggregator}
-use Rattle.route_values.specs.declared.attrs.Large.{Large}
-use Rattle.route_values.specs.declared.attrs.Origin.{Origin}
 use Rattle.route_values.specs.declared.attrs.Origin.TheVariants.{Igp, Egp, Incomplete}
 use Rattle.route_values.specs.declared.attrs.WireAttrs.{WireAttrs}
-use Rattle.route_values.specs.declared.path.Segment.{Segment}
 use Rattle.route_values.specs.Sent.{same_large}
 use Rattle.route_values.proofs.KeyLemmas.{same_addr_is}
 use Rattle.peer_history.specs.Same.{same_family, same_origin, same_segment, same_aggregator, same_needed, same_single}

@@ -1,28 +1,27 @@
 -- A session carries visible keys alone.
 use Rattle.std.proofs.Common.{◌≡◌, Bool, true, false, List, [], ◌∷◌, ◌++◌, Some, None, refl, sym, ap, ◌∙◌, subst, inl}
 use Rattle.std.proofs.Common.{inr}
-use Rattle.std.specs.Prelude.{◌&&◌, ◌||◌, ◌==◌, ◌⊎◌, if◌then◌else◌, Option, unwrap_or, IsSome, IsTrue, is_some}
+use Rattle.std.specs.Prelude.{◌&&◌, ◌||◌, ◌==◌, ◌⊎◌, if◌then◌else◌, unwrap_or, IsSome, is_some}
 use Rattle.std.proofs.Common.{eqb-true}
 use Rattle.std.proofs.lemmas.Bool.{and_parts, or_cases}
 use Rattle.std.proofs.lemmas.Option.{same_Some}
-use Rattle.std.specs.List.{AllByRecursion}
 use Rattle.route_values.specs.declared.key.Key.{Key}
 use Rattle.route_values.specs.Caps.{Caps}
 use Rattle.route_values.specs.Key.{family_of_key}
 use Rattle.route_values.specs.Visible.{IsVisible, has_path}
 use Rattle.update_grammar.specs.Net.{net}
-use Rattle.peer_history.specs.Batches.{opened, first_cut, batch, is_owed, is_refreshed}
+use Rattle.peer_history.specs.Batches.{opened, first_cut, is_owed, is_refreshed}
 use Rattle.peer_history.specs.Cuts.{IsLegal}
 use Rattle.peer_history.specs.Keys.{is_named}
 use Rattle.peer_history.specs.Laws.{HeldAreVisible, LeftAreVisible}
-use Rattle.peer_history.specs.Messages.{said, marks, value_given}
+use Rattle.peer_history.specs.Messages.{marks, value_given}
 use Rattle.peer_history.specs.Same.{differ}
 use Rattle.peer_history.specs.Sessions.{session, session_effects, peer}
 use Rattle.peer_history.specs.Steps.{Step}
 use Rattle.peer_history.specs.Steps.Step.{Up, Down, Cut}
 use Rattle.peer_history.specs.Steps.Answer.{Message}
 use Rattle.peer_history.specs.Table.{want, settings_in, is_visible, route_sent, view}
-use Rattle.peer_history.proofs.BatchLemmas.{AreSaid, due_for, are_said}
+use Rattle.peer_history.proofs.BatchLemmas.{due_for, are_said}
 use Rattle.peer_history.proofs.KeyLemmas.{each_named}
 use Rattle.peer_history.proofs.MessageLemmas.{Grammar, names_keys, net_meant, said_is, written_marks}
 use Rattle.peer_history.proofs.SessionLemmas.{legal_tail, at_session}

@@ -1,11 +1,11 @@
 -- Tables as lists of keys in their order.
-use Rattle.std.specs.Prelude.{ℕ, ◌≡◌, Bool, List, [], ◌∷◌, ◌++◌, map, filter, if◌then◌else◌, is_some}
+use Rattle.std.specs.Prelude.{◌≡◌, Bool, List, [], ◌∷◌, ◌++◌, map, filter, if◌then◌else◌, is_some}
 use Rattle.std.specs.declared.cmp.Ordering.TheVariants.{Less, Equal, Greater}
 use Rattle.route_values.specs.declared.key.Key.{Key}
 use Rattle.route_values.specs.Order.{key_cmp}
 use Rattle.peer_history.specs.Keys.{is_named, times_named}
 use Rattle.peer_history.specs.Nodes.{is_node}
-use Rattle.peer_history.specs.Steps.{Step, Static}
+use Rattle.peer_history.specs.Steps.{Step}
 use Rattle.peer_history.specs.Steps.Step.{Announced, Placed, Kept}
 use Rattle.peer_history.specs.Table.{want}
 

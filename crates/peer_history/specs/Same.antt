@@ -1,5 +1,5 @@
 -- Whether two routes are sent alike: tests of equality that compute.
-use Rattle.std.specs.Prelude.{◌==◌, ◌&&◌, Bool, true, false, not, nat_eq, Option, Some, None}
+use Rattle.std.specs.Prelude.{◌==◌, ◌&&◌, Bool, true, false, not, nat_eq, Option}
 use Rattle.std.specs.Bool.{beq}
 use Rattle.std.specs.Cmp.Lexicographic.{pointwise}
 use Rattle.std.specs.Option.{option_eq}

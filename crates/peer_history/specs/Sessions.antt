@@ -1,5 +1,5 @@
 -- The session of a slot, and what its messages have left at the peer.
-use Rattle.std.specs.Prelude.{ℕ, Bool, true, false, List, [], ◌∷◌, ◌++◌, if◌then◌else◌, Option, Some, None, is_some}
+use Rattle.std.specs.Prelude.{List, [], ◌∷◌, ◌++◌, if◌then◌else◌, Option, Some, None, is_some}
 use Rattle.std.specs.Option.{option_or}
 use Rattle.route_values.specs.declared.attrs.WireAttrs.{WireAttrs}
 use Rattle.route_values.specs.declared.key.Key.{Key}

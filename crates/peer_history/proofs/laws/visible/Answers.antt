@@ -1,4 +1,3 @@
-use Rattle.peer_history.proofs.MessageLemmas.{Grammar}
 use Rattle.peer_history.proofs.VisibleLemmas.{held_are_visible, left_are_visible}
 use Rattle.peer_history.proofs.laws.visible.Goals as goal
 
