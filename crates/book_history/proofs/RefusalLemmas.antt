@@ -2,6 +2,7 @@
 use Rattle.std.proofs.Common.{◌≡◌, ℕ, [], ◌∷◌, length, Some, None, refl, sym, ap, arith, inl, inr}
 use Rattle.std.proofs.Common.{eq-eqb}
 use Rattle.std.specs.Prelude.{Option, unwrap_or}
+use Rattle.route_values.specs.declared.addr.Family.TheVariants.{Ipv4}
 use Rattle.route_values.specs.declared.attrs.WireAttrs.{WireAttrs}
 use Rattle.text_forms.specs.Lines.{Line}
 use Rattle.update_grammar.specs.ReadAttributes.{raw_at, value_in, attr_of, attrs_in}
@@ -67,6 +68,6 @@ refusals whole pending line = record {
       in cc;
   one_prefix = λ legal may.
       let leaves = whole one [] (one_sent line) 0 only_ipv4 (here bare (second ∷ [])) (may, legal) refl in
-      let e = leaves.packed.0.full (refl, refl) in omega (arith, e);
+      let e = leaves.packed.0.full (refl {a = Ipv4}, refl {a = wire bare}) in omega (arith, e);
   sixth_start = λ legal may. cc;
 }
