@@ -9,4 +9,5 @@ pub mod HelperExampleLemmas
 pub mod ReloadExampleLemmas
 pub mod RefusalLemmas
 pub mod EndExampleLemmas
+pub mod CutLemmas
 pub mod LegalExampleLemmas

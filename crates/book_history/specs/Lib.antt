@@ -18,5 +18,5 @@ pub mod BatchExamples
 pub mod HelperExamples
 pub mod ReloadExamples
 pub mod EndExamples
-pub mod LegalExamples
 pub mod Refusals
+pub mod LegalExamples

@@ -4,7 +4,7 @@ ghost use Rattle.command_grammar.specs.declared.command.Command.{Command};
 ghost use Rattle.book_history.specs.BatchExamples.{FrozenBatches, LostSessions, SentAgain};
 ghost use Rattle.book_history.specs.EndExamples.{Ends};
 ghost use Rattle.book_history.specs.HelperExamples.{FewStarts, HelpersGone, SwitchedReplies};
-ghost use Rattle.book_history.specs.LegalExamples.{TwoBatches};
+ghost use Rattle.book_history.specs.LegalExamples.{RefusalsAreOfLegal, TwoBatches};
 ghost use Rattle.book_history.specs.Refusals.{FullQueueWaits, Refusals};
 ghost use Rattle.book_history.specs.ReloadExamples.{Reloads};
 
@@ -38,10 +38,12 @@ pub fn ends_work()
     ensures { (line : Command → Line) → Ends line }
 {}
 
-/// A history that is legal, with entries of a helper that starts and of its lines, and of a neighbour whose session
-/// comes up and is sent two batches: messages that aren't the last, a marker and a message that are, and then nothing.
-pub fn two_batches_are_legal()
-    ensures { TwoBatches }
+/// Histories that are legal: one with entries of a helper that starts and of its lines, and of a neighbour whose
+/// session comes up and is sent two batches, messages that aren't the last, a marker and a message that are, and then
+/// nothing; and those behind which [`wrong_answers_are_refused`].
+pub fn examples_are_legal()
+    ensures two_batches { TwoBatches }
+    ensures before_refusals { RefusalsAreOfLegal }
 {
     reading_is_spelling();
     written_is_spelled();

@@ -12,7 +12,7 @@ mod laws;
 mod outcomes;
 
 pub use examples::{
-    batches_work, ends_work, helpers_work, reloads_work, two_batches_are_legal,
+    batches_work, ends_work, examples_are_legal, helpers_work, reloads_work,
     wrong_answers_are_refused,
 };
 pub use laws::{helpers_are_bounded, nodes_stay, nothing_pending, tests_decide, whole_batches};
