@@ -1,7 +1,6 @@
 -- Messages that may be cut: what is left is looked up by tests that compute.
 use Rattle.std.proofs.Common.{◌≡◌, ℕ, ◌<◌, ◌≤◌, Bool, true, false, List, [], ◌∷◌, length, Some, None, refl, arith, inl}
 use Rattle.std.specs.Prelude.{◌^◌, ◌↔◌, Option, IfSome, IsTrue}
-use Rattle.route_values.specs.declared.addr.Family.{Family}
 use Rattle.route_values.specs.declared.addr.Family.TheVariants.{Ipv4, Ipv6}
 use Rattle.route_values.specs.declared.attrs.Attrs.{Attrs}
 use Rattle.route_values.specs.declared.attrs.Hop.{Hop}

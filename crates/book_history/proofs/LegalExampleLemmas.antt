@@ -1,9 +1,7 @@
 -- The example of two batches, and the histories behind which answers are refused, are legal, entry by entry.
-use Rattle.std.proofs.Common.{◌≡◌, ℕ, ◌<◌, ◌≤◌, true, false, List, [], ◌∷◌, length, Some, None, refl, ap, arith, inl}
+use Rattle.std.proofs.Common.{◌≡◌, ℕ, true, false, List, [], ◌∷◌, length, Some, None, refl, ap, arith, inl}
 use Rattle.std.specs.Prelude.{Option, unwrap_or}
-use Rattle.route_values.specs.declared.attrs.Attrs.{Attrs}
 use Rattle.route_values.specs.declared.attrs.WireAttrs.{WireAttrs}
-use Rattle.route_values.specs.declared.key.Key.{Key}
 use Rattle.text_forms.specs.Lines.{Line}
 use Rattle.update_grammar.specs.ReadAttributes.{raw_at, value_in, attr_of, attrs_in}
 use Rattle.update_grammar.specs.ReadPrefixes.{key_at, keys_in}
@@ -19,14 +17,14 @@ use Rattle.peer_history.specs.Steps.{Step}
 use Rattle.peer_history.specs.Steps.Step.{Cut}
 use Rattle.peer_history.specs.Steps.Answer.{Message}
 use Rattle.peer_history.proofs.LeftLemmas.{none_left}
-use Rattle.book_history.specs.BatchExamples.{all_sent, half_sent, announced_anew}
+use Rattle.book_history.specs.BatchExamples.{all_sent, announced_anew}
 use Rattle.book_history.specs.Entries.{History}
 use Rattle.book_history.specs.Legal.{IsLegal}
 use Rattle.book_history.specs.LegalExamples.{AreRead, AreLegal, TwoBatches, RefusalsAreOfLegal}
 use Rattle.book_history.specs.PeerSteps.{steps_of}
 use Rattle.book_history.specs.ReloadExamples.{own}
 use Rattle.book_history.specs.Refusals.{with_static}
-use Rattle.book_history.specs.Samples.{one, first, second, bare, with_med, wire, only_ipv4, here, marker, last, more}
+use Rattle.book_history.specs.Samples.{one, first, second, bare, with_med, only_ipv4, here, marker, last, more}
 use Rattle.book_history.specs.Samples.{announce, done, begun, sent_one}
 use Rattle.book_history.proofs.CutLemmas.{Texts, med_sendable, bare_sendable, own_sendable, first_carried}
 use Rattle.book_history.proofs.CutLemmas.{second_carried, is_short, marker_stays, key_stays, none_stays}
