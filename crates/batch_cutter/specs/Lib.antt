@@ -1,0 +1,9 @@
+pub mod Kinds
+pub mod Heads
+pub mod Sizes
+pub mod Packing
+pub mod Items
+pub mod Grouped
+pub mod Groups
+pub mod Filling
+pub mod Plain
