@@ -9,13 +9,12 @@ use Rattle.update_grammar.specs.Laws.{EndIsSpelled}
 use Rattle.exa_top.specs.declared.status.Status.{Status}
 use Rattle.exa_top.specs.declared.status.Status.TheVariants as status
 use Rattle.exa_top.specs.declared.words.TextCommand.{TextCommand}
-use Rattle.exa_top.specs.declared.words.TextCommand.TheVariants.{Encode, Help, Version}
+use Rattle.exa_top.specs.declared.words.TextCommand.TheVariants.{Encode, Parse, Help, Version}
 use Rattle.exa_top.specs.Encoding.{IsEncoding, marker, last_text}
+use Rattle.exa_top.specs.Parsing.{IsParsing}
 use Rattle.exa_top.specs.Top.{input_limit, IsOutput, ReadToEnd, ReadsWhole, ReadPart, ReadNothing, ReadsPart, Broke}
-use Rattle.exa_top.specs.Top.{GaveLimit}
-use Rattle.exa_top.specs.Top.{GaveFrom}
-use Rattle.exa_top.specs.Top.{Answered, Wrote}
-use Rattle.exa_top.proofs.OutputLemmas.{some_encoding, parted}
+use Rattle.exa_top.specs.Top.{GaveFrom, IsLeft, Answered, Wrote}
+use Rattle.exa_top.proofs.OutputLemmas.{some_encoding, some_parsing, parted}
 
 -- what isn't touched has grown by nothing
 grows_none : (told : Option (List ℕ)) → Grows told told []
@@ -38,6 +37,8 @@ few_given limit (Some was) (Some now) bytes grows few from = absurd
 pub whole_is_few : (command : TextCommand) (source source' : SourceSeen) (bytes : List ℕ)
     → ReadsWhole command source source' bytes → GaveFrom input_limit source.given source'.given → ⊥
 whole_is_few (Encode side) source source' bytes whole = few_given input_limit source.given source'.given bytes
+    whole.given whole.short
+whole_is_few Parse source source' bytes whole = few_given input_limit source.given source'.given bytes
     whole.given whole.short
 whole_is_few Help source source' bytes whole = λ from.
     let none : SourceSeen → Type 0 = λ seen. GaveFrom input_limit source.given seen.given in
@@ -138,31 +139,39 @@ encoding_written side source source' sink sink' input text ends whole encoding s
     (part_of_whole source source' input whole) parts.outcome (λ part rest is longer. whole) same
     (subst Of parts.output_is wrote)
 
--- `encode` that wrote nothing
-nothing_written : EndIsSpelled Ipv4 → (side : Side) (source source' : SourceSeen) (sink : SinkSeen) (input : List ℕ)
-    → ReadPart source source' input → Broke (Encode side) source source' sink sink
-nothing_written law side source source' sink input part =
-    let some = some_encoding law side input in
-    record {
-      input = input;
-      early = some.0;
-      late = last_text marker;
-      part = [];
-      read = part;
-      outcome = some.1;
-      front = (some.0 ++ last_text marker, refl);
-      written = grows_none sink.taken;
-      past = λ longer. absurd (omega (arith, longer));
-    }
+-- `parse` that read its input and wrote the output
+pub parsing_written : (source source' : SourceSeen) (sink sink' : SinkSeen) (input text : List ℕ) (ends : Status)
+    → ReadToEnd source source' input → IsParsing input text → source'.faults ≡ source.faults
+    → Wrote text sink sink' ends → Answered Parse source source' sink sink' ends
+parsing_written source source' sink sink' input text ends whole parsing same wrote =
+    let Of : List ℕ → Type 0 = λ all. Wrote all sink sink' ends in
+    written Parse source source' sink sink' input text [] ends whole (part_of_whole source source' input whole)
+    (parsing, refl) (λ part rest is longer. whole) same (subst Of (sym (append-nil text)) wrote)
 
--- `encode` that found no memory
-pub no_memory : EndIsSpelled Ipv4 → (side : Side) (source source' : SourceSeen) (sink : SinkSeen) (input : List ℕ)
-    → ReadPart source source' input → source'.faults ≡ source.faults
-    → Answered (Encode side) source source' sink sink status.NoMemory
-no_memory law side source source' sink input part same = record {
+-- a command that wrote nothing
+nothing_written : (command : TextCommand) (source source' : SourceSeen) (sink : SinkSeen) (input early late : List ℕ)
+    → ReadsPart command source source' input → IsOutput command input early late
+    → Broke command source source' sink sink
+nothing_written command source source' sink input early late part outcome = record {
+  input = input;
+  early = early;
+  late = late;
+  part = [];
+  read = part;
+  outcome = outcome;
+  front = (early ++ late, refl);
+  written = grows_none sink.taken;
+  past = λ longer. absurd (omega (arith, longer));
+}
+
+-- a command whose input was left before its end
+pub stopped : (command : TextCommand) (source source' : SourceSeen) (sink : SinkSeen) (input early late : List ℕ)
+    (ends : Status) → ReadsPart command source source' input → IsOutput command input early late
+    → IsLeft source source' ends → Answered command source source' sink sink ends
+stopped command source source' sink input early late status.NoMemory part outcome same = record {
   spelled = λ is. absurd (cc);
   ok = λ is. absurd (cc);
-  broke = λ other. nothing_written law side source source' sink input part;
+  broke = λ other. nothing_written command source source' sink input early late part outcome;
   read = λ is. absurd (cc);
   read_same = λ other. same;
   write = λ is. absurd (cc);
@@ -170,15 +179,10 @@ no_memory law side source source' sink input part same = record {
   long = λ is. absurd (cc);
   over = λ from. inr (inr refl);
 }
-
--- `encode` whose input failed
-pub read_fault : EndIsSpelled Ipv4 → (side : Side) (source source' : SourceSeen) (sink : SinkSeen) (input : List ℕ)
-    → ReadPart source source' input → CountsOne source.faults source'.faults
-    → Answered (Encode side) source source' sink sink status.ReadFault
-read_fault law side source source' sink input part counts = record {
+stopped command source source' sink input early late status.ReadFault part outcome counts = record {
   spelled = λ is. absurd (cc);
   ok = λ is. absurd (cc);
-  broke = λ other. nothing_written law side source source' sink input part;
+  broke = λ other. nothing_written command source source' sink input early late part outcome;
   read = λ is. counts;
   read_same = λ other. absurd (other refl);
   write = λ is. absurd (cc);
@@ -186,19 +190,32 @@ read_fault law side source source' sink input part counts = record {
   long = λ is. absurd (cc);
   over = λ from. inr (inl refl);
 }
-
--- `encode` whose input didn't end in time
-pub input_long : EndIsSpelled Ipv4 → (side : Side) (source source' : SourceSeen) (sink : SinkSeen) (input : List ℕ)
-    → ReadPart source source' input → source'.faults ≡ source.faults → GaveLimit input_limit source source'
-    → Answered (Encode side) source source' sink sink status.InputLong
-input_long law side source source' sink input part same gave = record {
+stopped command source source' sink input early late status.InputLong part outcome left = record {
   spelled = λ is. absurd (cc);
   ok = λ is. absurd (cc);
-  broke = λ other. nothing_written law side source source' sink input part;
+  broke = λ other. nothing_written command source source' sink input early late part outcome;
   read = λ is. absurd (cc);
-  read_same = λ other. same;
+  read_same = λ other. left.0;
   write = λ is. absurd (cc);
   write_same = λ other. refl;
-  long = λ is. gave;
+  long = λ is. left.1;
   over = λ from. inl refl;
 }
+stopped command source source' sink input early late status.Ok part outcome left = absurd left
+stopped command source source' sink input early late status.Usage part outcome left = absurd left
+stopped command source source' sink input early late status.WriteFault part outcome left = absurd left
+
+-- `encode` whose input was left before its end
+pub encoding_stopped : EndIsSpelled Ipv4 → (side : Side) (source source' : SourceSeen) (sink : SinkSeen)
+    (input : List ℕ) (ends : Status) → ReadPart source source' input → IsLeft source source' ends
+    → Answered (Encode side) source source' sink sink ends
+encoding_stopped law side source source' sink input ends part left =
+    let some = some_encoding law side input in
+    stopped (Encode side) source source' sink input some.0 (last_text marker) ends part some.1 left
+
+-- `parse` whose input was left before its end
+pub parsing_stopped : (source source' : SourceSeen) (sink : SinkSeen) (input : List ℕ) (ends : Status)
+    → ReadPart source source' input → IsLeft source source' ends → Answered Parse source source' sink sink ends
+parsing_stopped source source' sink input ends part left =
+    let some = some_parsing input in
+    stopped Parse source source' sink input some.0 [] ends part (some.1, refl) left

@@ -7,3 +7,5 @@ pub mod TookLemmas
 pub mod AnsweredLemmas
 pub mod OutputLemmas
 pub mod WordLemmas
+pub mod ZippedLemmas
+pub mod ParsedLemmas

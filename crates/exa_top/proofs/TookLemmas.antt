@@ -1,6 +1,6 @@
 -- Lines that are answered, one and all.
 use Rattle.std.proofs.Common.{ℕ, ◌≡◌, ◌^◌, ◌<◌, Bool, true, false, List, [], ◌∷◌, ◌++◌, Option, Some, None, refl}
-use Rattle.std.proofs.Common.{sym, ap, subst, ◌∙◌, arith, append_assoc, append-nil, if◌then◌else◌}
+use Rattle.std.proofs.Common.{sym, ap, ◌∙◌, arith, if◌then◌else◌}
 use Rattle.std.specs.List.{AllZip, flat_map}
 use Rattle.std.proofs.lemmas.List.{flat_map_more}
 use Rattle.route_values.specs.Addr.{family_of}
@@ -19,6 +19,7 @@ use Rattle.exa_top.specs.Answers.{Entry, Refused, NoRoom, Answers, reply_to, rep
 use Rattle.exa_top.specs.Answers.{entry_says}
 use Rattle.exa_top.specs.Commands.{Reads, ReadsWords}
 use Rattle.exa_top.specs.Slots.{slot_at, slot_of, entry_of, IsSlot, IsTable, IsPut, Took, TookAll}
+use Rattle.exa_top.proofs.ZippedLemmas.{zipped_more, zipped_all}
 
 hop_fits : (text : List ℕ) (hop : ℕ) → IsIpv4 text hop → hop < 2 ^ 32
 hop_fits text hop is = omega (arith, is.value, is.first_small, is.second_small, is.third_small, is.fourth_small)
@@ -112,17 +113,6 @@ took_none input replies slots quiet empty table = record {
   says = λ prefix. ap (λ s. slot_at s prefix) empty;
 }
 
--- the answers to the lines so far go on with one entry more
-answered_more : (input : List ℕ) (line : Line) (now after : List Line) (entries others : List Entry) (entry : Entry)
-    → ((all : List Entry) → AllZip Answers now all → AllZip Answers (lines input) (entries ++ all)) → now ≡ line ∷ after
-    → Answers line entry → AllZip Answers after others → AllZip Answers (lines input)
-    ((entries ++ entry ∷ []) ++ others)
-answered_more input line now after entries others entry before is answers rest =
-    let Zipped : List Line → Type 0 = λ ls. AllZip Answers ls (entry ∷ others) in
-    let Of : List Entry → Type 0 = λ es. AllZip Answers (lines input) es in
-    subst Of (sym (append_assoc entries (entry ∷ []) others))
-    (before (entry ∷ others) (subst Zipped (sym is) (answers, rest)))
-
 -- one line more was answered
 pub took_more : (input rest after replies more : List ℕ) (line : Line) (reply : Reply)
     (slots now : List (Block × Option ℕ)) → TookFront input rest replies slots → lines rest ≡ line ∷ lines after
@@ -130,8 +120,8 @@ pub took_more : (input rest after replies more : List ℕ) (line : Line) (reply 
     → more ≡ replies ++ printed reply → TookFront input after more now
 took_more input rest after replies more line reply slots now front is took text = record {
   entries = front.entries ++ took.entry ∷ [];
-  answered = λ others all. answered_more input line (lines rest) (lines after) front.entries others took.entry
-      front.answered is took.answers all;
+  answered = λ others all. zipped_more Answers (lines input) (lines rest) (lines after) line front.entries others
+      took.entry front.answered is took.answers all;
   replied = text ∙ ap (λ t. t ++ printed reply) front.replied
       ∙ ap (λ r. flat_map reply_text front.entries ++ printed r) took.replied
       ∙ flat_map_more reply_text [] front.entries took.entry;
@@ -143,13 +133,10 @@ took_more input rest after replies more line reply slots now front is took text 
 -- all lines were answered
 pub took_all : (input rest replies : List ℕ) (slots : List (Block × Option ℕ)) → TookFront input rest replies slots
     → lines rest ≡ [] → TookAll input replies slots
-took_all input rest replies slots front none =
-    let Zipped : List Line → Type 0 = λ ls. AllZip Answers ls [] in
-    let Of : List Entry → Type 0 = λ es. AllZip Answers (lines input) es in
-    record {
-      entries = front.entries;
-      answered = subst Of (append-nil front.entries) (front.answered [] (subst Zipped (sym none) tt));
-      replied = front.replied;
-      table = front.table;
-      says = front.says;
-    }
+took_all input rest replies slots front none = record {
+  entries = front.entries;
+  answered = zipped_all Answers (lines input) (lines rest) front.entries front.answered none;
+  replied = front.replied;
+  table = front.table;
+  says = front.says;
+}

@@ -1,6 +1,7 @@
 pub mod Commands
 pub mod Answers
 pub mod Encoding
+pub mod Parsing
 pub mod Words
 pub mod Top
 pub mod Slots

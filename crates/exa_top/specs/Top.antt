@@ -9,9 +9,10 @@ use Rattle.outside.specs.Told.{Grows, Shrinks, AreLeft, AreLeftFrom, CountsOne}
 use Rattle.exa_top.specs.declared.status.Status.{Status}
 use Rattle.exa_top.specs.declared.status.Status.TheVariants as status
 use Rattle.exa_top.specs.declared.words.TextCommand.{TextCommand}
-use Rattle.exa_top.specs.declared.words.TextCommand.TheVariants.{Encode, Help, Version}
+use Rattle.exa_top.specs.declared.words.TextCommand.TheVariants.{Encode, Parse, Help, Version}
 use Rattle.exa_top.specs.Answers.{reply_text}
 use Rattle.exa_top.specs.Encoding.{IsEncoding}
+use Rattle.exa_top.specs.Parsing.{IsParsing}
 use Rattle.exa_top.specs.Words.{IsCommand}
 
 -- how many bytes of input are too many
@@ -27,6 +28,8 @@ abbrev pub help_text : List ℕ
 help_text =
     codes "usage: exabgpd encode LOCAL_AS PEER_AS LOCAL_IP\n"
     ++ codes "           reads announce and withdraw lines, writes replies and UPDATE messages\n"
+    ++ codes "       exabgpd parse\n"
+    ++ codes "           reads command lines, writes for each whether it reads or where its first fault is\n"
     ++ codes "       exabgpd --help\n" ++ codes "           writes this text\n"
     ++ codes "       exabgpd --version\n" ++ codes "           writes the name and the version\n"
 
@@ -35,6 +38,7 @@ help_text =
 abbrev pub IsOutput : TextCommand → List ℕ → List ℕ → List ℕ → Type 0
 IsOutput (Encode side) input early late =
     (whole : IsEncoding side input (early ++ late)) × (early ≡ flat_map reply_text whole.entries)
+IsOutput Parse input early late = IsParsing input early × (late ≡ [])
 IsOutput Help input early late = (early ≡ help_text) × (late ≡ [])
 IsOutput Version input early late = (early ≡ version_text) × (late ≡ [])
 
@@ -57,15 +61,17 @@ pub record ReadNothing (source source' : SourceSeen) (bytes : List ℕ) : Type 0
   pub same : source' ≡ source
   pub none : bytes ≡ []
 
--- what a command reads that ends well: `encode` its input to the end, the others nothing
+-- what a command reads that ends well: `encode` and `parse` their input to the end, the others nothing
 abbrev pub ReadsWhole : TextCommand → SourceSeen → SourceSeen → List ℕ → Type 0
 ReadsWhole (Encode side) source source' bytes = ReadToEnd source source' bytes
+ReadsWhole Parse source source' bytes = ReadToEnd source source' bytes
 ReadsWhole Help source source' bytes = ReadNothing source source' bytes
 ReadsWhole Version source source' bytes = ReadNothing source source' bytes
 
 -- what a command may have read that ends in another way
 abbrev pub ReadsPart : TextCommand → SourceSeen → SourceSeen → List ℕ → Type 0
 ReadsPart (Encode side) source source' bytes = ReadPart source source' bytes
+ReadsPart Parse source source' bytes = ReadPart source source' bytes
 ReadsPart Help source source' bytes = ReadNothing source source' bytes
 ReadsPart Version source source' bytes = ReadNothing source source' bytes
 
@@ -98,6 +104,13 @@ pub record GaveLimit (limit : ℕ) (source source' : SourceSeen) : Type 0 where
   pub full : length bytes ≡ limit
   pub left : AreLeftFrom source.left limit
   pub unended : source'.ended ≡ source.ended
+
+-- why a source is left before its end, as a status, and what its count of faults then shows
+abbrev pub IsLeft : SourceSeen → SourceSeen → Status → Type 0
+IsLeft source source' status.NoMemory = source'.faults ≡ source.faults
+IsLeft source source' status.ReadFault = CountsOne source.faults source'.faults
+IsLeft source source' status.InputLong = (source'.faults ≡ source.faults) × GaveLimit input_limit source source'
+IsLeft source source' _ = ⊥
 
 -- the bytes given are told, and have grown by so many or more
 abbrev pub GaveFrom : ℕ → Option (List ℕ) → Option (List ℕ) → Type 0

@@ -11,6 +11,7 @@ mod answering;
 mod command;
 mod encoding;
 mod messages;
+mod parsing;
 mod status;
 mod table;
 mod top;

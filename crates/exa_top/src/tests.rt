@@ -113,6 +113,54 @@ fn lines_are_answered_and_the_messages_leave_what_they_say(rt: HostRuntime) -> R
     Ok(())
 }
 
+// Lines, and what is written for each.
+const LINES: [(&str, &str); 12] = [
+    ("announce route 10.0.0.0/24 next-hop 192.0.2.1 med 5\n", "ok\n"),
+    ("neighbor 192.0.2.2 withdraw route 2001:db8::/32\r\n", "ok\n"),
+    ("# a remark\n", "ok\n"),
+    (" \t\n", ""),
+    ("shutdown\n", "ok\n"),
+    ("announce route 10.0.0.1/24 next-hop 192.0.2.1\n", "error token 3\n"),
+    ("announce route 10.0.0.0/24\n", "error token 4\n"),
+    ("announce route 10.0.0.0/24 next-hop ::1\n", "error token 5\n"),
+    ("announce route 10.0.0.0/24 next-hop self med 5 med 6\n", "error token 8\n"),
+    ("Reload\n", "error token 1\n"),
+    ("teardown 256\n", "error token 2\n"),
+    ("reload", ""),
+];
+
+#[test]
+fn of_each_line_it_is_written_how_it_reads(rt: HostRuntime) -> Result<(), Fail> {
+    let mut input = String::new(rt.alloc());
+    let mut answers = String::new(rt.alloc());
+    for (line, answer) in LINES {
+        input.push_str(line)?;
+        answers.push_str(answer)?;
+    }
+    let done = run(rt.alloc(), &["parse"], input.as_str(), &[], &[])?;
+    assert_eq!(rt; done.status, Status::Ok);
+    assert_eq!(rt; done.output.as_str(), answers.as_str());
+    let unread = run(rt.alloc(), &["parse"], input.as_str(), &[1], &[])?;
+    assert_eq!(rt; unread.status, Status::ReadFault);
+    assert_eq!(rt; unread.output.as_str(), "");
+    Ok(())
+}
+
+#[test]
+fn a_list_over_its_limit_and_a_long_line_are_told_apart(rt: HostRuntime) -> Result<(), Fail> {
+    let mut input = String::new(rt.alloc());
+    input.push_str("announce route 10.0.0.0/24 next-hop self community [")?;
+    for number in 0..201 {
+        input.push_str(format!(in rt.alloc(); " 65001:{number}")?.as_str())?;
+    }
+    input.push_str(" ]\n")?;
+    input.push_str(line_of(rt.alloc(), "reload", 65_535)?.as_str())?;
+    input.push_str(line_of(rt.alloc(), "reload", 65_536)?.as_str())?;
+    let done = run(rt.alloc(), &["parse"], input.as_str(), &[], &[])?;
+    assert_eq!(rt; done.output.as_str(), "error many 208 200\nok\nerror long\n");
+    Ok(())
+}
+
 #[test]
 fn help_and_version_write_their_texts(rt: HostRuntime) -> Result<(), Fail> {
     let version = run(rt.alloc(), &["--version"], ROUTE, &[0], &[])?;
@@ -130,10 +178,11 @@ fn help_and_version_write_their_texts(rt: HostRuntime) -> Result<(), Fail> {
 
 #[test]
 fn words_that_spell_no_command_are_usage_and_touch_nothing(rt: HostRuntime) -> Result<(), Fail> {
-    let table: [&[&str]; 7] = [
+    let table: [&[&str]; 8] = [
         &[],
         &["frob"],
         &["encode"],
+        &["parse", "one.conf"],
         &["encode", "one.conf"],
         &["encode", "0", "65002", "192.0.2.9"],
         &["encode", "65001", "65002", "192.0.2.256"],

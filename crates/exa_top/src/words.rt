@@ -13,6 +13,8 @@ use text_forms::{asn, ipv4};
 pub enum TextCommand {
     /// `encode LOCAL_AS PEER_AS LOCAL_IP`: a session with these ends.
     Encode(Side),
+    /// `parse`
+    Parse,
     /// `--help`
     Help,
     /// `--version`
@@ -31,6 +33,9 @@ pub fn text_command(words: &[&str]) -> Option<TextCommand>
     }
     if !operands.is_empty() {
         return None;
+    }
+    if is(name.as_bytes(), b"parse") {
+        return Some(TextCommand::Parse);
     }
     if is(name.as_bytes(), b"--help") {
         return Some(TextCommand::Help);
