@@ -1,6 +1,6 @@
 //! The kinds of items, and sets of them.
 ghost use Rattle.std.specs.Prelude.{◌≡◌, ◌↔◌, List, [], ◌∷◌, IsTrue, IfSome, IfNone};
-ghost use Rattle.route_grammar.specs.declared.kind.Kind.{Kind as Any};
+ghost use Rattle.route_grammar.specs.declared.kind.Kind.{Kind as AnyKind};
 ghost use Rattle.route_grammar.specs.Items.{IsKeyword, is_among, kind_code};
 ghost use Rattle.route_grammar.specs.Kinds.{HasKinds};
 
@@ -66,14 +66,15 @@ impl Kinds {
 
     /// Whether a kind is among them.
     pub fn has(&self, kind: Kind) -> bool
-        ensures { (kinds : List Any) → HasKinds self.now kinds → result ≡ is_among kind kinds }
+        ensures { (kinds : List AnyKind) → HasKinds self.now kinds → result ≡ is_among kind kinds }
     {
         self.marks[kind.number()]
     }
 
     /// Takes a kind in.
     pub fn add(&mut self, kind: Kind)
-        ensures { (kinds : List Any) → HasKinds self.old kinds → HasKinds self.new (kind ∷ kinds) }
+        ensures { (kinds : List AnyKind) → HasKinds self.old kinds
+            → HasKinds self.new (kind ∷ kinds) }
     {
         self.marks[kind.number()] = true;
     }
@@ -82,7 +83,7 @@ impl Kinds {
 /// The kind of the item that begins with a word.
 pub fn kind_of(word: &[u8]) -> Option<Kind>
     ensures found { IfSome result (λ kind. IsKeyword word.now kind) }
-    ensures none { IfNone result ((kind : Any) → IsKeyword word.now kind → ⊥) }
+    ensures none { IfNone result ((kind : AnyKind) → IsKeyword word.now kind → ⊥) }
 {
     if is(word, b"next-hop") {
         return Some(Kind::NextHop);
