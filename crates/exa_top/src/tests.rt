@@ -115,15 +115,30 @@ fn lines_are_answered_and_the_messages_leave_what_they_say(rt: HostRuntime) -> R
 
 // Lines, and what is written for each.
 const LINES: [(&str, &str); 12] = [
-    ("announce route 10.0.0.0/24 next-hop 192.0.2.1 med 5\n", "ok\n"),
-    ("neighbor 192.0.2.2 withdraw route 2001:db8::/32\r\n", "ok\n"),
+    (
+        "announce route 10.0.0.0/24 next-hop 192.0.2.1 med 5\n",
+        "ok\n",
+    ),
+    (
+        "neighbor 192.0.2.2 withdraw route 2001:db8::/32\r\n",
+        "ok\n",
+    ),
     ("# a remark\n", "ok\n"),
     (" \t\n", ""),
     ("shutdown\n", "ok\n"),
-    ("announce route 10.0.0.1/24 next-hop 192.0.2.1\n", "error token 3\n"),
+    (
+        "announce route 10.0.0.1/24 next-hop 192.0.2.1\n",
+        "error token 3\n",
+    ),
     ("announce route 10.0.0.0/24\n", "error token 4\n"),
-    ("announce route 10.0.0.0/24 next-hop ::1\n", "error token 5\n"),
-    ("announce route 10.0.0.0/24 next-hop self med 5 med 6\n", "error token 8\n"),
+    (
+        "announce route 10.0.0.0/24 next-hop ::1\n",
+        "error token 5\n",
+    ),
+    (
+        "announce route 10.0.0.0/24 next-hop self med 5 med 6\n",
+        "error token 8\n",
+    ),
     ("Reload\n", "error token 1\n"),
     ("teardown 256\n", "error token 2\n"),
     ("reload", ""),
@@ -157,7 +172,10 @@ fn a_list_over_its_limit_and_a_long_line_are_told_apart(rt: HostRuntime) -> Resu
     input.push_str(line_of(rt.alloc(), "reload", 65_535)?.as_str())?;
     input.push_str(line_of(rt.alloc(), "reload", 65_536)?.as_str())?;
     let done = run(rt.alloc(), &["parse"], input.as_str(), &[], &[])?;
-    assert_eq!(rt; done.output.as_str(), "error many 208 200\nok\nerror long\n");
+    assert_eq!(rt;
+        done.output.as_str(),
+        "error many 208 200\nok\nerror long\n"
+    );
     Ok(())
 }
 
