@@ -2,3 +2,4 @@ pub mod State
 pub mod Batch
 pub mod Nodes
 pub mod Calls
+pub mod Told

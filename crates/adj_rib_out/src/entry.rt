@@ -1,6 +1,6 @@
 //! What is told of a table.
 
-use route_values::{Attrs, Family, Key, WireAttrs};
+use route_values::{Attrs, WireAttrs};
 
 /// Who asked for a route.
 #[derive(Clone, Copy, Debug, PartialEq, Eq)]
@@ -19,18 +19,4 @@ pub struct Entry<'a> {
     /// The attributes as they are sent to the neighbour.
     pub attrs: &'a WireAttrs,
     pub owner: Owner,
-}
-
-/// What a batch says next.
-#[derive(Clone, Copy)]
-pub enum Due<'a> {
-    /// The key is withdrawn.
-    Gone(&'a Key),
-    /// The key is announced with these attributes. Within a batch two announcements have the same number exactly where
-    /// their families and attributes are equal.
-    Here(usize, &'a Key, &'a WireAttrs),
-    /// The End-of-RIB marker of the family (RFC 4724, section 2).
-    End(Family),
-    /// No batch is open.
-    Empty,
 }
