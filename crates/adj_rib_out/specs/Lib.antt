@@ -3,3 +3,5 @@ pub mod Batch
 pub mod Nodes
 pub mod Calls
 pub mod Told
+pub mod Places
+pub mod Kept

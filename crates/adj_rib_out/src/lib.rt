@@ -5,8 +5,12 @@
 //! is a batch of `batch_cutter`. Nothing here reads or writes a message.
 #![tactic(auto)]
 
+mod chosen;
 mod entry;
+mod keys;
 mod rib;
+mod showing;
+mod values;
 
 pub use batch_cutter::Due;
 pub use entry::{Entry, Owner};

@@ -1,0 +1,61 @@
+//! What slots show.
+
+ghost use Rattle.std.specs.Prelude.{◌≡◌, ◌<◌, ◌+◌, ◌*◌, ◌^◌, length};
+ghost use Rattle.adj_rib_out.specs.State.{is_visible};
+ghost use Rattle.adj_rib_out.specs.Kept.{number_of, parity_of, shown_number};
+
+use crate::chosen::Chosen;
+use crate::values::Values;
+use route_values::{Caps, Family, Key};
+
+/// The number of a slot of the family that has no attributes.
+pub fn parity_of(family: Family) -> usize
+    ensures parity { result ≡ parity_of family }
+    ensures small { result < 2 }
+{
+    match family {
+        Family::Ipv4 => 0,
+        Family::Ipv6 => 1,
+    }
+}
+
+/// Whether the session carries the key.
+pub fn is_visible(caps: &Caps, key: &Key) -> bool
+    ensures { result ≡ is_visible caps.now key.now }
+{
+    let family = key.family();
+    caps.has(family) && (key.id == 0 || caps.path(family))
+}
+
+/// The number that a slot of the parity has with a value.
+pub fn number_of(values: &Values, parity: usize, chosen: Option<Chosen>) -> usize
+    requires parity { parity < 2 }
+    requires room { 2 * length values.now.wires + 1 < 2 ^ 63 }
+    ensures { result ≡ number_of values.now parity chosen }
+{
+    let Some(chosen) = chosen else {
+        return parity;
+    };
+    match values.wire_of(chosen.value) {
+        Some(wire) => 2 * (wire + 1) + parity,
+        None => parity,
+    }
+}
+
+/// The number that the slot of a key is to show.
+pub fn shown_number(values: &Values, caps: Option<Caps>, key: &Key, chosen: Option<Chosen>) -> usize
+    requires room { 2 * length values.now.wires + 1 < 2 ^ 63 }
+    ensures { result ≡ shown_number caps values.now key.now chosen }
+{
+    let parity = parity_of(key.family());
+    match caps {
+        Some(caps) => {
+            if is_visible(&caps, key) {
+                number_of(values, parity, chosen)
+            } else {
+                parity
+            }
+        }
+        None => parity,
+    }
+}

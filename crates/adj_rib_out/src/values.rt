@@ -1,0 +1,77 @@
+//! Values as they are written, with their wire attributes.
+
+ghost use Rattle.std.specs.Prelude.{◌≡◌, ◌≤◌, length, option_copied, Some, None};
+ghost use Rattle.std.specs.Option.{option_map};
+ghost use Rattle.adj_rib_out.specs.Kept.{AreKept, written_under, wire_under, route_in, chosen_of};
+ghost use Rattle.adj_rib_out.specs.Told.{route_told};
+
+use crate::entry::{Entry, Owner};
+use route_values::{Attrs, Side, WireAttrs};
+use std::alloc::Global;
+use std::marker::Model;
+
+/// Written values and wire attributes, each under a number.
+#[derive(Drop)]
+pub struct Values {
+    alloc: Global,
+    side: Side,
+    written: Vec<Option<(Attrs, usize)>>,
+    wires: Vec<Option<WireAttrs>>,
+}
+
+impl Model for Values {
+    ghost use Rattle.adj_rib_out.specs.Kept.{Values as Seen, AreKept, values_of};
+
+    ghost Value = { Seen };
+
+    ghost view = { λ v. values_of v.side v.written.items v.wires.items };
+
+    ghost invariant = { λ v. AreKept (values_of v.side v.written.items v.wires.items) };
+}
+
+impl Values {
+    /// The value under a number with its wire attributes, as a route of the owner.
+    pub fn entry(&self, number: usize, owner: Owner) -> Option<Entry<'_>>
+        ensures { option_map route_told result ≡ route_in self.now (Some (chosen_of number owner)) }
+    {
+        let Some(Some((written, wire))) = self.written.get(number) else {
+            return None;
+        };
+        let Some(Some(attrs)) = self.wires.get(*wire) else {
+            return None;
+        };
+        Some(Entry {
+            written,
+            attrs,
+            owner,
+        })
+    }
+
+    /// The number of the wire attributes of a value.
+    pub fn wire_of(&self, number: usize) -> Option<usize>
+        ensures { result ≡ option_map (λ value. value.1) (written_under self.now number) }
+    {
+        match self.written.get(number) {
+            Some(Some((_, wire))) => Some(*wire),
+            _ => None,
+        }
+    }
+
+    /// The wire attributes under a number.
+    pub fn wire(&self, number: usize) -> Option<&WireAttrs>
+        ensures { option_copied result ≡ wire_under self.now number }
+    {
+        match self.wires.get(number) {
+            Some(Some(attrs)) => Some(attrs),
+            _ => None,
+        }
+    }
+
+    /// How many numbers wire attributes have. Its clause tells besides all that holds of each.
+    pub fn wires(&self) -> usize
+        ensures wires { result ≡ length self.now.wires }
+        ensures kept { AreKept self.now }
+    {
+        self.wires.len()
+    }
+}
