@@ -1,2 +1,8 @@
 mod StateLemmas
-mod RowLemmas
+pub mod RowLemmas
+pub mod NumberLemmas
+pub mod PartLemmas
+pub mod NodeLemmas
+pub mod SeenNodeLemmas
+pub mod KeepLemmas
+pub mod SetLemmas

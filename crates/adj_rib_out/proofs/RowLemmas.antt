@@ -15,7 +15,7 @@ use Rattle.adj_rib_out.specs.Places.{key_at, is_key, place_from, place_of, rows_
 pub some_is : {X : Type 0} {m n : X} → Some m ≡ Some n → m ≡ n
 some_is {X} {m} {n} same = cc
 
-none_some : {X : Type 0} {x : X} → None ≡ Some x → ⊥
+pub none_some : {X : Type 0} {x : X} → None ≡ Some x → ⊥
 none_some {X} {x} same = cc
 
 -- ---- what rows have of a key is what its place has

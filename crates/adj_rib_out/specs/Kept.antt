@@ -1,7 +1,7 @@
 -- How a table is kept: keys at places, the value that each was given, values and wire attributes under numbers, and a
 -- slot for each place. A slot's number is 2 * (w + 1) + family for the wire attributes under w, and the family alone
 -- where there are none.
-use Rattle.std.specs.Prelude.{ℕ, ◌≡◌, ◌≢◌, ◌+◌, ◌-◌, ◌*◌, ◌/◌, ◌%◌, ◌<◌, ◌≤◌, ◌||◌, Bool, true, false, List, [], ◌∷◌, map}
+use Rattle.std.specs.Prelude.{ℕ, ◌≡◌, ◌≢◌, ◌+◌, ◌-◌, ◌*◌, ◌/◌, ◌%◌, ◌<◌, ◌≤◌, ◌||◌, ⊤, Bool, true, false, List, [], ◌∷◌, map}
 use Rattle.std.specs.Prelude.{if◌then◌else◌, Option, Some, None, IsSome, IsTrue, length, nat_lt, slice_index_or}
 use Rattle.std.specs.Option.{option_map}
 use Rattle.linked_pending.specs.Links.{link}
@@ -15,7 +15,7 @@ use Rattle.route_values.specs.declared.settings.Side.{Side}
 use Rattle.route_values.specs.Caps.{Caps}
 use Rattle.route_values.specs.Key.{family_of_key}
 use Rattle.route_values.specs.Sent.{sent}
-use Rattle.slot_batches.specs.Left.{slots_of, value_left, AreTogether}
+use Rattle.slot_batches.specs.Left.{slots_of, AreTogether}
 use Rattle.slot_batches.specs.Left.{values_of as values_left}
 use Rattle.slot_batches.specs.Slots.{Slots}
 use Rattle.slot_batches.specs.declared.slots.Item.{Item as SlotItem}
@@ -177,20 +177,26 @@ pub record IsVacant (parts : Parts) (place : ℕ) : Type 0 where
   pub now : link parts.slots.nows place < 2
   pub sent : link parts.slots.sents place < 2
   pub chosen : chosen_at parts.routes place ≡ None
-  pub left : value_left parts.slots.left place ≡ None
 
 -- a slot of a key shows what the session is to have of it
 pub record IsTaken (parts : Parts) (place : ℕ) (key : Key) : Type 0 where
   pub now : link parts.slots.nows place ≡ shown_number parts.caps parts.values key (chosen_at parts.routes place)
   pub sent : IsNumber parts.values (parity key) (link parts.slots.sents place)
-  pub left : (number : ℕ) → value_left parts.slots.left place ≡ Some number
-      → IsNumber parts.values (parity key) number
+
+-- an item of the open batch is of a key, with one of its numbers
+pub record IsLeft (keys : List (Option Key)) (values : Values) (item : SlotItem) : Type 0 where
+  pub key : Key
+  pub stands : key_at keys item.slot ≡ Some key
+  pub number : IsNumber values (parity key) item.value
+
+abbrev pub AreLeft : List (Option Key) → Values → List SlotItem → Type 0
+AreLeft keys values [] = ⊤
+AreLeft keys values (item ∷ items) = IsLeft keys values item × AreLeft keys values items
 
 -- nothing was sent of any slot of a parity, and nothing is left
-pub record IsSilent (slots : Slots) (parity : ℕ) : Type 0 where
-  pub sent : (place : ℕ) → place < length slots.nows → link slots.nows place % 2 ≡ parity
-      → link slots.sents place < 2
-  pub left : slots.left ≡ []
+pub record IsSilent (sents : List ℕ) (left : List SlotItem) (parity : ℕ) : Type 0 where
+  pub sent : (place : ℕ) → link sents place % 2 ≡ parity → link sents place < 2
+  pub none : left ≡ []
 
 pub record IsTable (parts : Parts) : Type 0 where
   pub once : StandOnce parts.keys
@@ -199,13 +205,15 @@ pub record IsTable (parts : Parts) : Type 0 where
   pub nows_length : length parts.slots.nows ≡ length parts.keys
   pub sents_length : length parts.slots.sents ≡ length parts.keys
   pub routes_length : length parts.routes ≡ length parts.keys
-  pub vacant : (place : ℕ) → place < length parts.keys → key_at parts.keys place ≡ None → IsVacant parts place
+  pub vacant : (place : ℕ) → key_at parts.keys place ≡ None → IsVacant parts place
   pub taken : (place : ℕ) (key : Key) → key_at parts.keys place ≡ Some key → IsTaken parts place key
   pub chosen : (place : ℕ) (chosen : Chosen) → chosen_at parts.routes place ≡ Some chosen
       → IsSome (written_under parts.values chosen.value)
+  pub left : AreLeft parts.keys parts.values parts.slots.left
   pub left_once : AreApart (slots_of parts.slots.left)
   pub left_together : AreTogether (values_left parts.slots.left)
-  pub down : parts.caps ≡ None → IsSilent parts.slots 0 × IsSilent parts.slots 1
+  pub down : parts.caps ≡ None → IsSilent parts.slots.sents parts.slots.left 0
+      × IsSilent parts.slots.sents parts.slots.left 1
       × (markers_of parts.ipv4_marker parts.ipv6_marker ≡ [])
-  pub ipv4_stale : parts.ipv4_stale ≡ true → IsSilent parts.slots 0
-  pub ipv6_stale : parts.ipv6_stale ≡ true → IsSilent parts.slots 1
+  pub ipv4_stale : parts.ipv4_stale ≡ true → IsSilent parts.slots.sents parts.slots.left 0
+  pub ipv6_stale : parts.ipv6_stale ≡ true → IsSilent parts.slots.sents parts.slots.left 1

@@ -30,7 +30,6 @@ pub fn is_visible(caps: &Caps, key: &Key) -> bool
 /// The number that a slot of the parity has with a value.
 pub fn number_of(values: &Values, parity: usize, chosen: Option<Chosen>) -> usize
     requires parity { parity < 2 }
-    requires room { 2 * length values.now.wires + 1 < 2 ^ 63 }
     ensures { result ≡ number_of values.now parity chosen }
 {
     let Some(chosen) = chosen else {
@@ -44,7 +43,6 @@ pub fn number_of(values: &Values, parity: usize, chosen: Option<Chosen>) -> usiz
 
 /// The number that the slot of a key is to show.
 pub fn shown_number(values: &Values, caps: Option<Caps>, key: &Key, chosen: Option<Chosen>) -> usize
-    requires room { 2 * length values.now.wires + 1 < 2 ^ 63 }
     ensures { result ≡ shown_number caps values.now key.now chosen }
 {
     let parity = parity_of(key.family());

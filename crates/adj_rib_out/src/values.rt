@@ -1,6 +1,6 @@
 //! Values as they are written, with their wire attributes.
 
-ghost use Rattle.std.specs.Prelude.{◌≡◌, ◌≤◌, length, option_copied, Some, None};
+ghost use Rattle.std.specs.Prelude.{◌≡◌, ◌≤◌, length, option_copied, ◌<◌, ◌^◌, IfSome, Some, None};
 ghost use Rattle.std.specs.Option.{option_map};
 ghost use Rattle.adj_rib_out.specs.Kept.{AreKept, written_under, wire_under, route_in, chosen_of};
 ghost use Rattle.adj_rib_out.specs.Told.{route_told};
@@ -49,8 +49,11 @@ impl Values {
 
     /// The number of the wire attributes of a value.
     pub fn wire_of(&self, number: usize) -> Option<usize>
-        ensures { result ≡ option_map (λ value. value.1) (written_under self.now number) }
+        ensures wire { result ≡ option_map (λ value. value.1) (written_under self.now number) }
+        ensures within { IfSome result (λ wire. wire < length self.now.wires) }
+        ensures small { length self.now.wires < 2 ^ 63 }
     {
+        let _count = self.wires.len();
         match self.written.get(number) {
             Some(Some((_, wire))) => Some(*wire),
             _ => None,
