@@ -6,3 +6,4 @@ pub mod NodeLemmas
 pub mod SeenNodeLemmas
 pub mod KeepLemmas
 pub mod SetLemmas
+pub mod InsideLemmas

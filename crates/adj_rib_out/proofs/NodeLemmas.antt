@@ -97,7 +97,7 @@ module _ (old new : ℕ → Bool) where
       let rest = count_same keys (first + 1) (λ p from. same p (omega arith)) in
       let at : first ≡ place = (omega arith) in
       subst (λ (p : ℕ). one (new first) + count_places new keys (first + 1) + one (old p)
-          ≡ one (old first) + count_places old keys (first + 1) + one (new p)) at (omega arith)
+      ≡ one (old first) + count_places old keys (first + 1) + one (new p)) at (omega arith)
   count_changed (None ∷ keys) first (suc n) place key stands is same =
       count_changed keys (first + 1) n place key stands (omega arith) same
   count_changed (Some k ∷ keys) first (suc n) place key stands is same =

@@ -75,8 +75,8 @@ module _ (keys : List (Option Key)) (once : StandOnce keys) (values : Values) (k
         | None ↦ items_seen keys values items
       ]) key ≡ left_by values key (cond (place == item.slot) (Some item.value) (value_left items place)))
       (sym left.0.stands) (item_step values left.0.key key item items (items_seen keys values items) place
-          (same_place keys once left.0.key item.slot (stands keys left.0.key item.slot once left.0.stands) key place here)
-          (item_seen items left.1))
+      (same_place keys once left.0.key item.slot (stands keys left.0.key item.slot once left.0.stands) key place here)
+      (item_seen items left.1))
 
 not_here : (keys : List (Option Key)) → StandOnce keys → (key : Key) → place_of keys key ≡ None → (k : Key) (place : ℕ)
     → key_at keys place ≡ Some k → same_key k key ≡ false
@@ -100,8 +100,8 @@ none_seen keys once values key none (item ∷ items) left =
       | Some k ↦ item_for values item k ∷ items_seen keys values items
       | None ↦ items_seen keys values items
     ]) key ≡ None) (sym left.0.stands) (none_step values left.0.key key item (items_seen keys values items)
-        (not_here keys once key none left.0.key item.slot left.0.stands)
-        (none_seen keys once values key none items left.1))
+    (not_here keys once key none left.0.key item.slot left.0.stands)
+    (none_seen keys once values key none items left.1))
 
 pub is_left_item : (items : List Item) (key : Key) → is_left items key ≡ is_some (item_at items key)
 is_left_item [] key = refl

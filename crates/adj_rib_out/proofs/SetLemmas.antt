@@ -1,24 +1,30 @@
 -- A key of the table is given a route, or loses it.
 use Rattle.std.proofs.Common.{◌≡◌, ◌≢◌, ◌==◌, ℕ, ◌+◌, ◌-◌, ◌*◌, ◌<◌, ◌≤◌, Bool, true, false, List, [], ◌∷◌, cond}
 use Rattle.std.proofs.Common.{Option, Some, None, zero, suc, length, refl, sym, ap, ap₂, subst, ◌∙◌, arith}
-use Rattle.std.specs.Prelude.{is_some, IsSome, slice_set, slice_index_or, ◌||◌, ◌&&◌, not}
-use Rattle.std.proofs.lemmas.Bool.{eq-eqb, ne_eqb, eqb-true, eqb-false}
+use Rattle.std.specs.Option.{option_map, option_and_then}
+use Rattle.std.specs.Prelude.{◌%◌, is_some, IsSome, IsTrue, slice_set, slice_index_or, ◌||◌, ◌&&◌, not}
+use Rattle.std.proofs.lemmas.Bool.{false≢true, eq-eqb, ne_eqb, eqb-true, eqb-false}
 use Rattle.std.proofs.lemmas.List.{length-set}
 use Rattle.linked_pending.specs.Links.{link}
 use Rattle.route_values.specs.declared.key.Key.{Key}
 use Rattle.route_values.specs.Key.{same_key}
+use Rattle.route_values.proofs.KeyLemmas.{same_key_is}
 use Rattle.adj_rib_out.specs.declared.chosen.Chosen.{Chosen}
-use Rattle.adj_rib_out.specs.State.{State, Route, route_at}
+use Rattle.adj_rib_out.specs.declared.entry.Owner.{Owner}
+use Rattle.slot_batches.specs.Slots.{Slots}
+use Rattle.route_values.specs.declared.attrs.Attrs.{Attrs}
+use Rattle.adj_rib_out.specs.State.{State, Route, route_at, is_ready, value_at, route_of}
 use Rattle.adj_rib_out.specs.Calls.{Sets}
 use Rattle.adj_rib_out.specs.Nodes.{is_kept, is_node, nodes}
 use Rattle.adj_rib_out.specs.Places.{key_at, place_of}
 use Rattle.adj_rib_out.specs.Kept.{Parts, Values, IsTable, seen, route_by, route_in, chosen_at, shown_number}
-use Rattle.adj_rib_out.specs.Kept.{written_under}
+use Rattle.adj_rib_out.specs.Kept.{written_under, chosen_of}
 use Rattle.adj_rib_out.proofs.RowLemmas.{found, within, changed, some_is, none_some}
-use Rattle.adj_rib_out.proofs.PartLemmas.{route_seen}
+use Rattle.adj_rib_out.proofs.PartLemmas.{route_seen, ready_seen, value_seen}
+use Rattle.adj_rib_out.proofs.NumberLemmas.{shown_below, shown_is}
 use Rattle.adj_rib_out.proofs.KeepLemmas.{set_at, ready_kept, told_kept}
 use Rattle.adj_rib_out.proofs.NodeLemmas.{count_places, count_changed, one}
-use Rattle.adj_rib_out.proofs.SeenNodeLemmas.{node_by, kept_by, node_seen, kept_seen, nodes_seen}
+use Rattle.adj_rib_out.proofs.SeenNodeLemmas.{node_by, kept_by, node_seen, kept_seen, nodes_seen, no_node}
 
 pub route_if : (values : Values) (test : Bool) (r s : Option Chosen)
     → route_in values (cond test r s) ≡ cond test (route_in values r) (route_in values s)
@@ -140,3 +146,112 @@ removed new old true true counts = omega arith
 removed new old true false counts = omega arith
 removed new old false true counts = omega arith
 removed new old false false counts = omega arith
+
+-- a key that stands ready has a place
+pub not_ready : (p : Parts) (state : State) (key : Key) → seen p ≡ state → IsTrue (is_ready state key)
+    → place_of p.keys key ≡ None → ⊥
+not_ready p state key view ready none = false≢true (sym (subst (λ (s : State). is_ready s key ≡ false) view
+    (ready_seen p key ∙ ap is_some none)) ∙ ready)
+
+mapped : {X Y Z : Type 0} (f : X → Y) (g : Y → Z) (o : Option X) → option_map (λ x. g (f x)) o
+    ≡ option_map g (option_map f o)
+mapped f g None = refl
+mapped f g (Some x) = refl
+
+some_mapped : {X Y : Type 0} (f : X → Y) (o : Option X) → is_some (option_map f o) ≡ is_some o
+some_mapped f None = refl
+some_mapped f (Some x) = refl
+
+-- the route of a value that stands ready
+module _ (p : Parts) (state : State) (view : seen p ≡ state) (value : ℕ) (owner : Owner) where
+  pub route_set : route_in p.values (Some (chosen_of value owner))
+      ≡ option_map (λ written. route_of state.side written owner) (value_at state value)
+  route_set = subst (λ (s : State). route_in p.values (Some (chosen_of value owner))
+      ≡ option_map (λ written. route_of s.side written owner) (value_at s value)) view
+      (mapped (λ (x : Attrs × ℕ). x.0) (λ (w : Attrs). route_of p.values.side w owner) (written_under p.values value)
+      ∙ ap (option_map (λ (w : Attrs). route_of p.values.side w owner)) (sym (value_seen p value)))
+
+  pub value_ready : IsSome (value_at state value) → IsSome (written_under p.values value)
+  value_ready ready = sym (some_mapped (λ (x : Attrs × ℕ). x.0) (written_under p.values value))
+      ∙ ap is_some (sym (value_seen p value)) ∙ subst (λ (s : State). is_some (value_at s value) ≡ true) (sym view) ready
+
+  pub route_some : IsSome (value_at state value)
+      → is_some (route_in p.values (Some (chosen_of value owner))) ≡ true
+  route_some ready = some_mapped (λ (x : Attrs × ℕ). route_of p.values.side x.0 owner) (written_under p.values value)
+      ∙ value_ready ready
+
+module _ (p : Parts) (table : IsTable p) (key : Key) (state : State) (view : seen p ≡ state) (place : ℕ)
+    (here : place_of p.keys key ≡ Some place) (r : Option Chosen)
+    (valid : (c : Chosen) → r ≡ Some c → IsSome (written_under p.values c.value)) (number : ℕ)
+    (shown : number ≡ shown_number p.caps p.values key r) where
+  pub below_room : number < p.slots.room
+  below_room = let below = shown_below p.values table.kept p.caps key r in let room = table.room in omega arith
+
+  pub same_parity : number % 2 ≡ link p.slots.nows place % 2
+  same_parity =
+      let taken = table.taken place key (key_here p table key place here r valid) in
+      ap (λ (n : ℕ). n % 2) shown ∙ (shown_is p.values table.kept p.caps key r).parity_is
+      ∙ sym (ap (λ (n : ℕ). n % 2) taken.now
+      ∙ (shown_is p.values table.kept p.caps key (chosen_at p.routes place)).parity_is)
+
+  module _ (routes : List (Option Chosen)) (chose : routes ≡ slice_set p.routes place r) (slots : Slots)
+      (show : slots ≡ record p.slots { nows = slice_set p.slots.nows place number }) where
+    abbrev pub made : Parts
+    made = record p { routes = routes; slots = slots }
+
+    made_is : behind p table key place here r valid ≡ made
+    made_is = ap₂ (λ (rs : List (Option Chosen)) (s : Slots). record p { routes = rs; slots = s }) (sym chose)
+        (sym (show ∙ ap (λ (n : ℕ). record p.slots { nows = slice_set p.slots.nows place n }) shown))
+
+    pub made_kept : IsTable made
+    made_kept = subst IsTable made_is (set_kept p table key place here r valid)
+
+    pub made_sets : Sets state (seen made) key (route_in p.values r)
+    made_sets = subst (λ (s : State). Sets s (seen made) key (route_in p.values r)) view
+        (subst (λ (q : Parts). Sets (seen p) (seen q) key (route_in p.values r)) made_is
+        (set_sets p table key place here r valid))
+
+    pub made_counts : nodes (seen made) + one (is_node state key)
+        ≡ nodes state + one (is_some (route_in p.values r) || is_kept state key)
+    made_counts = subst (λ (s : State). nodes (seen made) + one (is_node s key)
+        ≡ nodes s + one (is_some (route_in p.values r) || is_kept s key)) view
+        (subst (λ (q : Parts). nodes (seen q) + one (is_node (seen p) key)
+        ≡ nodes (seen p) + one (is_some (route_in p.values r) || is_kept (seen p) key)) made_is
+        (set_counts p table key place here r valid))
+
+    pub made_route : (route : Option Route) → route_in p.values r ≡ route → Sets state (seen made) key route
+    made_route route is = subst (λ (o : Option Route). Sets state (seen made) key o) is made_sets
+
+    pub made_added : is_some (route_in p.values r) ≡ true
+        → nodes (seen made) ≡ nodes state + cond (is_node state key) 0 1
+    made_added some = added (nodes (seen made)) (nodes state) (is_node state key) (is_kept state key)
+        (subst (λ (t : Bool). nodes (seen made) + one (is_node state key)
+        ≡ nodes state + one (t || is_kept state key)) some made_counts)
+
+    pub made_removed : is_some (route_in p.values r) ≡ false
+        → nodes (seen made) + cond (is_node state key && not (is_kept state key)) 1 0 ≡ nodes state
+    made_removed none = removed (nodes (seen made)) (nodes state) (is_some (route_at state key)) (is_kept state key)
+        (subst (λ (t : Bool). nodes (seen made) + one (is_node state key)
+        ≡ nodes state + one (t || is_kept state key)) none made_counts)
+
+-- a key without a row has no route to lose
+module _ (p : Parts) (table : IsTable p) (key : Key) (state : State) (view : seen p ≡ state)
+    (none : place_of p.keys key ≡ None) where
+  pub nothing_set : Sets state state key None
+  nothing_set = subst (λ (s : State). Sets s s key None) view (record {
+    side = refl;
+    routes = λ k. elim (same_key key k) as (λ t. same_key key k ≡ t
+        → route_at (seen p) k ≡ cond t None (route_at (seen p) k)) [
+          | true ↦ λ same. subst (λ (j : Key). route_at (seen p) j ≡ None) (same_key_is key k same)
+              (route_seen p key ∙ ap (option_and_then (route_by p)) none)
+          | false ↦ λ differs. refl
+        ] refl;
+    ready = ready_kept p p refl refl;
+    session = record { session = refl; told = λ k. refl };
+    batch = record { left = refl; markers = refl };
+  })
+
+  pub nothing_counts : nodes state + cond (is_node state key && not (is_kept state key)) 1 0 ≡ nodes state
+  nothing_counts = subst (λ (s : State). nodes s + cond (is_node s key && not (is_kept s key)) 1 0 ≡ nodes s) view
+      (subst (λ (t : Bool). nodes (seen p) + cond (t && not (is_kept (seen p) key)) 1 0 ≡ nodes (seen p))
+      (sym (no_node p table key none)) (omega arith))

@@ -8,10 +8,10 @@
 mod chosen;
 mod entry;
 mod keys;
-// mod rib;
+mod rib;
 mod showing;
 mod values;
 
 pub use batch_cutter::Due;
 pub use entry::{Entry, Owner};
-// pub use rib::Rib;
+pub use rib::Rib;

@@ -1,6 +1,6 @@
 //! What slots show.
 
-ghost use Rattle.std.specs.Prelude.{◌≡◌, ◌<◌, ◌+◌, ◌*◌, ◌^◌, length};
+ghost use Rattle.std.specs.Prelude.{◌≡◌, ◌<◌, ◌+◌, ◌*◌, ◌^◌, length, slice_set};
 ghost use Rattle.adj_rib_out.specs.State.{is_visible};
 ghost use Rattle.adj_rib_out.specs.Kept.{number_of, parity_of, shown_number};
 
@@ -56,4 +56,12 @@ pub fn shown_number(values: &Values, caps: Option<Caps>, key: &Key, chosen: Opti
         }
         None => parity,
     }
+}
+
+/// Gives a place a value, or takes it from it.
+pub fn choose(routes: &mut Vec<Option<Chosen>>, place: usize, chosen: Option<Chosen>)
+    requires { place < length routes.old.items }
+    ensures { routes.new.items ≡ slice_set routes.old.items place chosen }
+{
+    routes[place] = chosen;
 }
