@@ -7,3 +7,5 @@ pub mod SeenNodeLemmas
 pub mod KeepLemmas
 pub mod SetLemmas
 pub mod InsideLemmas
+pub mod PassLemmas
+pub mod RefreshLemmas

@@ -18,6 +18,10 @@ some_is {X} {m} {n} same = cc
 pub none_some : {X : Type 0} {x : X} → None ≡ Some x → ⊥
 none_some {X} {x} same = cc
 
+pub none_of : {X : Type 0} (o : Option X) → is_some o ≡ false → o ≡ None
+none_of None is = refl
+none_of (Some x) is = absurd (false≢true (sym is))
+
 -- ---- what rows have of a key is what its place has
 
 module _ (route : ℕ → Option Route) (told : ℕ → Option WireAttrs) (key : Key) where

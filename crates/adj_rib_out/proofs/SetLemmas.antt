@@ -89,7 +89,8 @@ module _ (p : Parts) (table : IsTable p) (key : Key) (place : ℕ) (here : place
     vacant = λ i none. record {
       now = subst (λ n. n < 2) (sym (now_is i ∙ ap (λ (t : Bool). cond t (shown_number p.caps p.values key r)
           (link p.slots.nows i)) (elsewhere i none))) (table.vacant i none).now;
-      sent = (table.vacant i none).sent;
+      sent = (table.vacant i none).sent ∙ sym (now_is i ∙ ap (λ (t : Bool). cond t
+          (shown_number p.caps p.values key r) (link p.slots.nows i)) (elsewhere i none));
       chosen = chosen_is i ∙ ap (λ (t : Bool). cond t r (chosen_at p.routes i)) (elsewhere i none)
           ∙ (table.vacant i none).chosen;
     };

@@ -175,7 +175,7 @@ pub record IsNumber (values : Values) (parity number : ℕ) : Type 0 where
 -- a slot of no key has nothing
 pub record IsVacant (parts : Parts) (place : ℕ) : Type 0 where
   pub now : link parts.slots.nows place < 2
-  pub sent : link parts.slots.sents place < 2
+  pub sent : link parts.slots.sents place ≡ link parts.slots.nows place
   pub chosen : chosen_at parts.routes place ≡ None
 
 -- a slot of a key shows what the session is to have of it

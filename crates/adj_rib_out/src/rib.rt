@@ -122,9 +122,10 @@ impl Rib {
     pub fn get(&self, key: &Key) -> Option<Entry<'_>>
         ensures { option_map route_told result ≡ route_at self.now key.now }
     {
-        let place = place_of(&self.keys, key)?;
-        let chosen = (*self.routes.get(place)?)?;
-        self.values.entry(chosen.value, chosen.owner)
+        match place_of(&self.keys, key) {
+            Some(place) => self.values.at(&self.routes, place),
+            None => None,
+        }
     }
 
     /// The number that the places of all pairs are below.
@@ -140,9 +141,12 @@ impl Rib {
         ensures { option_map (λ pair. (pair.0.now, route_told pair.1)) result
             ≡ pair_at self.now place }
     {
-        let key = key_at(&self.keys, place)?;
-        let chosen = (*self.routes.get(place)?)?;
-        let entry = self.values.entry(chosen.value, chosen.owner)?;
-        Some((key, entry))
+        match (
+            key_at(&self.keys, place),
+            self.values.at(&self.routes, place),
+        ) {
+            (Some(key), Some(entry)) => Some((key, entry)),
+            _ => None,
+        }
     }
 }

@@ -2,9 +2,10 @@
 
 ghost use Rattle.std.specs.Prelude.{◌≡◌, ◌≤◌, length, option_copied, ◌<◌, ◌^◌, IfSome, Some, None};
 ghost use Rattle.std.specs.Option.{option_map};
-ghost use Rattle.adj_rib_out.specs.Kept.{AreKept, written_under, wire_under, route_in, chosen_of};
+ghost use Rattle.adj_rib_out.specs.Kept.{AreKept, written_under, wire_under, route_in, chosen_of, chosen_at};
 ghost use Rattle.adj_rib_out.specs.Told.{route_told};
 
+use crate::chosen::Chosen;
 use crate::entry::{Entry, Owner};
 use route_values::{Attrs, Side, WireAttrs};
 use std::alloc::Global;
@@ -45,6 +46,16 @@ impl Values {
             attrs,
             owner,
         })
+    }
+
+    /// The route that was chosen at a place.
+    pub fn at(&self, routes: &[Option<Chosen>], place: usize) -> Option<Entry<'_>>
+        ensures { option_map route_told result ≡ route_in self.now (chosen_at routes.now place) }
+    {
+        match routes.get(place) {
+            Some(Some(chosen)) => self.entry(chosen.value, chosen.owner),
+            _ => None,
+        }
     }
 
     /// The number of the wire attributes of a value.
