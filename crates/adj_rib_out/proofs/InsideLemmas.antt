@@ -1,7 +1,7 @@
 -- The parts of a table's fields.
-use Rattle.adj_rib_out.specs.declared.rib.Rib.TheInside.{Inside}
+use Rattle.adj_rib_out.specs.declared.table.Table.TheInside.{Inside}
 use Rattle.adj_rib_out.specs.Kept.{Parts, parts_of}
 
 abbrev pub parts : Inside → Parts
-parts rib = parts_of rib.keys.items rib.routes.items rib.values rib.slots rib.caps rib.begun rib.ipv4_stale rib.ipv6_stale
-    rib.ipv4_marker rib.ipv6_marker
+parts table = parts_of table.keys.items table.routes.items table.values table.slots table.caps table.begun table.ipv4_stale table.ipv6_stale
+    table.ipv4_marker table.ipv6_marker

@@ -9,3 +9,4 @@ pub mod SetLemmas
 pub mod InsideLemmas
 pub mod PassLemmas
 pub mod RefreshLemmas
+pub mod OwedLemmas

@@ -65,6 +65,13 @@ module _ (values : Values) where
   pub attrs_of_none : (a : ℕ) → a < 2 → attrs_under values a ≡ None
   attrs_of_none a below = ap (λ test. cond test (wire_under values (a / 2 - 1)) None) (not_above a below)
 
+  pub above_if : (a : ℕ) → IsSome (attrs_under values a) → 1 < a
+  above_if a some = elim (nat_lt 1 a) as (λ test. nat_lt 1 a ≡ test → 1 < a) [
+    | true ↦ λ test. grind (arith, common_steps)
+    | false ↦ λ test. let below : a < 2 = grind (arith, common_steps) in
+        absurd (false≢true (sym (ap is_some (attrs_of_none a below)) ∙ some))
+  ] refl
+
   -- a number without attributes is no value
   pub none_below : (parity a : ℕ) → IsNumber values parity a → attrs_under values a ≡ None → a < 2
   none_below parity a is none = elim (nat_lt 1 a) as (λ test. nat_lt 1 a ≡ test → a < 2) [

@@ -18,7 +18,9 @@ use Rattle.adj_rib_out.specs.Batch.{item_at, is_left}
 use Rattle.adj_rib_out.specs.Places.{key_at, place_of, rows_from, StandOnce}
 use Rattle.adj_rib_out.specs.Kept.{Parts, Values, seen, route_by, told_by, items_seen, item_for, attrs_under, says_by}
 use Rattle.adj_rib_out.specs.Kept.{written_under, AreLeft}
-use Rattle.adj_rib_out.proofs.RowLemmas.{route_rows, told_rows, ready_rows, found, stands, same_place, some_is, none_some}
+use Rattle.adj_rib_out.specs.Nodes.{pair_at}
+use Rattle.adj_rib_out.specs.Told.{pair_if}
+use Rattle.adj_rib_out.proofs.RowLemmas.{pair_rows, route_rows, told_rows, ready_rows, found, stands, same_place, some_is, none_some}
 use Rattle.route_values.proofs.KeyLemmas.{same_key_is}
 
 module _ (parts : Parts) (key : Key) where
@@ -118,3 +120,27 @@ left_slot (item ∷ items) slot = elim (slot == item.slot) as (λ t. (t || has s
       | true ↦ refl
       | false ↦ left_slot items slot
     ]
+
+-- ---- what is asked
+
+module _ (p : Parts) (state : State) (view : seen p ≡ state) where
+  pub route_is : (key : Key) (place : ℕ) → place_of p.keys key ≡ Some place → route_at state key ≡ route_by p place
+  route_is key place here = sym (ap (λ (s : State). route_at s key) view) ∙ route_seen p key
+      ∙ ap (option_and_then (route_by p)) here
+
+  pub no_route : (key : Key) → place_of p.keys key ≡ None → route_at state key ≡ None
+  no_route key none = sym (ap (λ (s : State). route_at s key) view) ∙ route_seen p key
+      ∙ ap (option_and_then (route_by p)) none
+
+  paired : (key : Option Key) (route : Option Route)
+      → option_and_then (λ (k : Key). option_map {U = Key × Route} (λ r. (k, r)) route) key ≡ pair_if key route
+  paired None route = refl
+  paired (Some key) None = refl
+  paired (Some key) (Some route) = refl
+
+  pub pair_is : (place : ℕ) → pair_at state place ≡ pair_if (key_at p.keys place) (route_by p place)
+  pair_is place = sym (ap (λ (s : State). pair_at s place) view)
+      ∙ pair_rows (route_by p) (told_by p) p.keys 0 place
+      ∙ ap (λ (n : ℕ). option_and_then (λ (k : Key). option_map {U = Key × Route} (λ r. (k, r)) (route_by p n))
+      (key_at p.keys place)) (omega arith)
+      ∙ paired (key_at p.keys place) (route_by p place)

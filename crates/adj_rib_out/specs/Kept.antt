@@ -1,7 +1,7 @@
 -- How a table is kept: keys at places, the value that each was given, values and wire attributes under numbers, and a
 -- slot for each place. A slot's number is 2 * (w + 1) + family for the wire attributes under w, and the family alone
 -- where there are none.
-use Rattle.std.specs.Prelude.{ℕ, ◌≡◌, ◌≢◌, ◌+◌, ◌-◌, ◌*◌, ◌/◌, ◌%◌, ◌<◌, ◌≤◌, ◌||◌, ⊤, Bool, true, false, List, [], ◌∷◌, map}
+use Rattle.std.specs.Prelude.{ℕ, ◌≡◌, ◌≢◌, ◌+◌, ◌-◌, ◌*◌, ◌/◌, ◌%◌, ◌<◌, ◌≤◌, ◌&&◌, ◌||◌, ⊤, not, Bool, true, false, List, [], ◌∷◌, map}
 use Rattle.std.specs.Prelude.{if◌then◌else◌, Option, Some, None, IsSome, IsTrue, length, nat_lt, slice_index_or}
 use Rattle.std.specs.Option.{option_map}
 use Rattle.linked_pending.specs.Links.{link}
@@ -15,6 +15,7 @@ use Rattle.route_values.specs.declared.settings.Side.{Side}
 use Rattle.route_values.specs.Caps.{Caps}
 use Rattle.route_values.specs.Key.{family_of_key}
 use Rattle.route_values.specs.Sent.{sent}
+use Rattle.route_values.specs.Visible.{has_family}
 use Rattle.slot_batches.specs.Left.{slots_of, AreTogether}
 use Rattle.slot_batches.specs.Left.{values_of as values_left}
 use Rattle.slot_batches.specs.Slots.{Slots}
@@ -138,6 +139,11 @@ items_seen keys values (item ∷ items) = elim (key_at keys item.slot) [
   | Some key ↦ item_for values item key ∷ items_seen keys values items
   | None ↦ items_seen keys values items
 ]
+
+-- whether a batch that begins owes the family's marker
+abbrev pub owes_end : Option Caps → Bool → Family → Bool
+owes_end None begun family = false
+owes_end (Some caps) begun family = has_family caps family && not begun
 
 abbrev pub markers_of : Bool → Bool → List Family
 markers_of true true = Ipv4 ∷ Ipv6 ∷ []

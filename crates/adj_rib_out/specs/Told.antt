@@ -13,6 +13,12 @@ use Rattle.adj_rib_out.specs.Nodes.{Next, Says, Ends, Nothing}
 abbrev pub route_told : Entry → Route
 route_told entry = record { written = entry.written.now; attrs = entry.attrs.now; owner = entry.owner }
 
+-- a key with its route, where both stand
+abbrev pub pair_if : Option Key → Option Route → Option (Key × Route)
+pair_if None route = None
+pair_if (Some key) None = None
+pair_if (Some key) (Some route) = Some (key, route)
+
 -- what is due, with what references show
 abbrev pub next_told : Due → Next
 next_told (due.Gone key) = Says (record { key = key.now; says = None })

@@ -1,6 +1,6 @@
 //! Keys at places.
 
-ghost use Rattle.std.specs.Prelude.{◌≡◌, option_copied};
+ghost use Rattle.std.specs.Prelude.{◌≡◌, length, option_copied};
 ghost use Rattle.adj_rib_out.specs.Places.{is_key, key_at, place_of};
 
 use route_values::Key;
@@ -34,4 +34,11 @@ pub fn key_at(keys: &[Option<Key>], place: usize) -> Option<&Key>
         Some(Some(key)) => Some(key),
         _ => None,
     }
+}
+
+/// How many places there are.
+pub fn count(keys: &[Option<Key>]) -> usize
+    ensures { result ≡ length keys.now }
+{
+    keys.len()
 }

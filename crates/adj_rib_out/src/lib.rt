@@ -10,8 +10,10 @@ mod entry;
 mod keys;
 mod rib;
 mod showing;
+mod table;
 mod values;
 
 pub use batch_cutter::Due;
 pub use entry::{Entry, Owner};
 pub use rib::Rib;
+pub use table::Table;

@@ -10,15 +10,14 @@ ghost use Rattle.adj_rib_out.specs.Calls.{is_open, Freezes, Passes};
 ghost use Rattle.adj_rib_out.specs.Nodes.{pair_at, next_of, nodes, is_node, is_kept, AreApart};
 ghost use Rattle.adj_rib_out.specs.Told.{route_told, next_told, items_left};
 
-use crate::chosen::Chosen;
 use crate::entry::{Entry, Owner};
-use crate::keys::{key_at, place_of};
-use crate::showing::{choose, parity_of, shown_number};
-use crate::values::Values;
-use batch_cutter::Due;
+use batch_cutter::{Batch, Due};
 use route_values::{Attrs, Caps, Family, Key, NoMemory};
-use slot_batches::Slots;
 use std::marker::Model;
+
+/// No value: so long as the table has no body.
+#[derive(Drop)]
+enum Never {}
 
 /// One neighbour's table: routes by their keys, what its session was sent of them, and what is left of the open batch.
 /// Keys and values stand ready before they are used; what stands ready is taken out by `trim` alone.
@@ -29,32 +28,40 @@ use std::marker::Model;
 /// announcements in groups of one family and value.
 #[derive(Drop)]
 pub struct Rib {
-    keys: Vec<Option<Key>>,
-    routes: Vec<Option<Chosen>>,
-    values: Values,
-    slots: Slots,
-    caps: Option<Caps>,
-    begun: bool,
-    ipv4_stale: bool,
-    ipv6_stale: bool,
-    ipv4_marker: bool,
-    ipv6_marker: bool,
+    never: Never,
 }
 
 impl Model for Rib {
     ghost use Rattle.adj_rib_out.specs.State.{State};
-    ghost use Rattle.adj_rib_out.specs.Kept.{parts_of, seen, IsTable};
+    ghost use Rattle.route_values.specs.declared.addr.Addr.TheVariants.{V4};
+    ghost use Rattle.std.specs.Prelude.{[]};
+    ghost use Rattle.adj_rib_out.specs.Calls.{empty};
 
     ghost Value = { State };
 
-    ghost view = { λ r. seen (parts_of r.keys.items r.routes.items r.values r.slots r.caps r.begun r.ipv4_stale
-        r.ipv6_stale r.ipv4_marker r.ipv6_marker) };
-
-    ghost invariant = { λ r. IsTable (parts_of r.keys.items r.routes.items r.values r.slots r.caps r.begun r.ipv4_stale
-        r.ipv6_stale r.ipv4_marker r.ipv6_marker) };
+    ghost view = { λ rib. empty (record { local = V4 0; local_as = 0; peer_as = 0 }) };
 }
 
 impl Rib {
+    /// Stands keys and a value ready, and answers the value's number. An equal value that stands ready already gives
+    /// its number. Where memory is wanting, some of them may stand ready.
+    pub fn ready(&mut self, keys: &[Key], written: &Attrs) -> Result<usize, NoMemory>
+        ensures ok { IfOk result (λ number. Readies self.old self.new keys.now written.now number) }
+        ensures err { OnErr result (ReadiesSome self.old self.new keys.now) }
+        ensures nodes { nodes self.new ≡ nodes self.old }
+    {
+        match self.never {}
+    }
+
+    /// Takes out the keys that stand ready and that neither the table, nor what was sent, nor the open batch has; and
+    /// the values of no route, but for some whose attributes were sent or are still to be.
+    pub fn trim(&mut self)
+        ensures trimmed { Trims self.old self.new }
+        ensures nodes { nodes self.new ≡ nodes self.old }
+    {
+        match self.never {}
+    }
+
     /// Gives the key a route, with the value of this number. Key and value stand ready.
     pub fn set(&mut self, key: &Key, value: usize, owner: Owner)
         requires key { IsTrue (is_ready self.old key.now) }
@@ -64,13 +71,7 @@ impl Rib {
         ensures nodes { nodes self.new
             ≡ nodes self.old + (if is_node self.old key.now then 0 else 1) }
     {
-        let Some(place) = place_of(&self.keys, key) else {
-            return;
-        };
-        let chosen = Some(Chosen { value, owner });
-        let number = shown_number(&self.values, self.caps, key, chosen);
-        choose(&mut self.routes, place, chosen);
-        self.slots.show(place, number);
+        match self.never {}
     }
 
     /// Takes the key's route out of the table. A key without one changes nothing.
@@ -80,11 +81,23 @@ impl Rib {
             + (if is_node self.old key.now && not (is_kept self.old key.now) then 1 else 0)
             ≡ nodes self.old }
     {
-        let Some(place) = place_of(&self.keys, key) else {
-            return;
-        };
-        choose(&mut self.routes, place, None);
-        self.slots.show(place, parity_of(key.family()));
+        match self.never {}
+    }
+
+    /// A session stands, on which nothing was sent.
+    pub fn up(&mut self, caps: Caps)
+        ensures restarts { Restarts self.old self.new (Some caps) }
+        ensures nodes { nodes self.new ≤ nodes self.old }
+    {
+        match self.never {}
+    }
+
+    /// No session stands.
+    pub fn down(&mut self)
+        ensures restarts { Restarts self.old self.new None }
+        ensures nodes { nodes self.new ≤ nodes self.old }
+    {
+        match self.never {}
     }
 
     /// All routes of the family are to be sent again, by the next batch (RFC 2918). Without a session nothing changes.
@@ -92,9 +105,23 @@ impl Rib {
         ensures refreshes { Refreshes self.old self.new family }
         ensures nodes { nodes self.new ≡ nodes self.old }
     {
-        if self.caps.is_some() {
-            self.slots.refresh(parity_of(family));
-        }
+        match self.never {}
+    }
+
+    /// Opens a batch with all that is owed, or none where nothing is.
+    pub fn freeze(&mut self)
+        requires { is_open self.old ≡ false }
+        ensures freezes { Freezes self.old self.new }
+        ensures nodes { nodes self.new ≡ nodes self.old }
+    {
+        match self.never {}
+    }
+
+    /// What the open batch says next; Empty exactly where none is open.
+    pub fn due(&self) -> Due<'_>
+        ensures { next_told result ≡ next_of self.now.left self.now.markers }
+    {
+        match self.never {}
     }
 
     /// Moves past what is due: it was sent. Where no batch is open nothing changes.
@@ -102,30 +129,21 @@ impl Rib {
         ensures passes { Passes self.old self.new }
         ensures nodes { nodes self.new ≤ nodes self.old }
     {
-        if self.slots.front().is_some() {
-            self.slots.pass();
-        } else if self.ipv4_marker {
-            self.ipv4_marker = false;
-        } else {
-            self.ipv6_marker = false;
-        }
+        match self.never {}
     }
 
     /// What the session that stands carries, or None where none stands.
     pub fn caps(&self) -> Option<Caps>
         ensures { result ≡ option_map (λ session. session.caps) self.now.session }
     {
-        self.caps
+        match self.never {}
     }
 
     /// The route of a key, or None where the table has none.
     pub fn get(&self, key: &Key) -> Option<Entry<'_>>
         ensures { option_map route_told result ≡ route_at self.now key.now }
     {
-        match place_of(&self.keys, key) {
-            Some(place) => self.values.at(&self.routes, place),
-            None => None,
-        }
+        match self.never {}
     }
 
     /// The number that the places of all pairs are below.
@@ -133,7 +151,7 @@ impl Rib {
         ensures places { result ≡ length self.now.rows }
         ensures apart { AreApart self.now.rows }
     {
-        self.keys.len()
+        match self.never {}
     }
 
     /// The pair that stands at a place, or None where none does.
@@ -141,12 +159,45 @@ impl Rib {
         ensures { option_map (λ pair. (pair.0.now, route_told pair.1)) result
             ≡ pair_at self.now place }
     {
-        match (
-            key_at(&self.keys, place),
-            self.values.at(&self.routes, place),
-        ) {
-            (Some(key), Some(entry)) => Some((key, entry)),
-            _ => None,
-        }
+        match self.never {}
+    }
+
+    /// How many nodes there are: keys that the table has, that the session was sent, or that the open batch is still
+    /// to announce.
+    pub fn nodes(&self) -> usize
+        ensures nodes { result ≡ nodes self.now }
+        ensures apart { AreApart self.now.rows }
+        ensures ready { (key : ValueOfKey) → IsTrue (is_node self.now key)
+            → IsTrue (is_ready self.now key) }
+    {
+        match self.never {}
+    }
+
+    /// Whether the key is a node.
+    pub fn is_node(&self, key: &Key) -> bool
+        ensures { result ≡ is_node self.now key.now }
+    {
+        match self.never {}
+    }
+
+    /// Whether the key would be a node without the table.
+    pub fn is_kept(&self, key: &Key) -> bool
+        ensures { result ≡ is_kept self.now key.now }
+    {
+        match self.never {}
+    }
+}
+
+impl Batch for Rib {
+    ghost left = { λ rib. items_left rib };
+
+    ghost passes = { λ old item new. Passes old new };
+
+    fn due(&self) -> Due<'_> {
+        match self.never {}
+    }
+
+    fn sent(&mut self) {
+        match self.never {}
     }
 }

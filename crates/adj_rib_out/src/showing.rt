@@ -1,8 +1,8 @@
 //! What slots show.
 
-ghost use Rattle.std.specs.Prelude.{◌≡◌, ◌<◌, ◌+◌, ◌*◌, ◌^◌, length, slice_set};
+ghost use Rattle.std.specs.Prelude.{◌≡◌, ◌<◌, ◌+◌, ◌*◌, ◌^◌, ◌||◌, ◌&&◌, not, length, slice_set};
 ghost use Rattle.adj_rib_out.specs.State.{is_visible};
-ghost use Rattle.adj_rib_out.specs.Kept.{number_of, parity_of, shown_number};
+ghost use Rattle.adj_rib_out.specs.Kept.{number_of, owes_end, parity_of, shown_number};
 
 use crate::chosen::Chosen;
 use crate::values::Values;
@@ -64,4 +64,28 @@ pub fn choose(routes: &mut Vec<Option<Chosen>>, place: usize, chosen: Option<Cho
     ensures { routes.new.items ≡ slice_set routes.old.items place chosen }
 {
     routes[place] = chosen;
+}
+
+/// Whether the first batch of a session owes the family's marker, and none was begun.
+pub fn owes_marker(caps: Option<Caps>, begun: bool, family: Family) -> bool
+    ensures { result ≡ owes_end caps begun family }
+{
+    match caps {
+        Some(caps) => caps.has(family) && !begun,
+        None => false,
+    }
+}
+
+/// Whether one of two holds.
+pub fn either(one: bool, other: bool) -> bool
+    ensures { result ≡ (one || other) }
+{
+    one || other
+}
+
+/// Whether one holds and the other doesn't.
+pub fn unless(one: bool, other: bool) -> bool
+    ensures { result ≡ (one && not other) }
+{
+    one && !other
 }

@@ -3,11 +3,11 @@
 ghost use Rattle.std.specs.Prelude.{◌≡◌, ◌≤◌, length, option_copied, ◌<◌, ◌^◌, IfSome, Some, None};
 ghost use Rattle.std.specs.Option.{option_map};
 ghost use Rattle.adj_rib_out.specs.Kept.{AreKept, written_under, wire_under, route_in, chosen_of, chosen_at};
-ghost use Rattle.adj_rib_out.specs.Told.{route_told};
+ghost use Rattle.adj_rib_out.specs.Told.{route_told, pair_if};
 
 use crate::chosen::Chosen;
 use crate::entry::{Entry, Owner};
-use route_values::{Attrs, Side, WireAttrs};
+use route_values::{Attrs, Key, Side, WireAttrs};
 use std::alloc::Global;
 use std::marker::Model;
 
@@ -87,5 +87,19 @@ impl Values {
         ensures kept { AreKept self.now }
     {
         self.wires.len()
+    }
+}
+
+/// A key with its route, where both stand.
+pub fn pair<'a>(key: Option<&'a Key>, entry: Option<Entry<'a>>) -> Option<(&'a Key, Entry<'a>)>
+    ensures { option_map (λ pair. (pair.0.now, route_told pair.1)) result
+        ≡ pair_if (option_copied key.entry) (option_map route_told entry.entry) }
+{
+    match key {
+        Some(key) => match entry {
+            Some(entry) => Some((key, entry)),
+            None => None,
+        },
+        None => None,
     }
 }

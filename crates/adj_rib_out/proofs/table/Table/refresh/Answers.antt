@@ -2,7 +2,7 @@ use Rattle.std.proofs.Common.{sym, ◌∙◌}
 use Rattle.adj_rib_out.proofs.RowLemmas.{none_of}
 use Rattle.adj_rib_out.proofs.InsideLemmas.{parts}
 use Rattle.adj_rib_out.proofs.RefreshLemmas as refresh
-use Rattle.adj_rib_out.proofs.rib.Rib.refresh.Goals as goal
+use Rattle.adj_rib_out.proofs.table.Table.refresh.Goals as goal
 
 pub invariant_of-self : goal.invariant_of-self
 invariant_of-self c = refresh.made_kept (parts c.self.inside) c.self.invariant c.args.family c.args.self.now c.self.view_is

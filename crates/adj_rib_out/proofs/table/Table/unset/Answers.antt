@@ -8,7 +8,7 @@ use Rattle.adj_rib_out.proofs.InsideLemmas.{parts}
 use Rattle.adj_rib_out.proofs.NumberLemmas.{shown_none}
 use Rattle.adj_rib_out.proofs.RowLemmas.{some_is, none_some}
 use Rattle.adj_rib_out.proofs.SetLemmas as set
-use Rattle.adj_rib_out.proofs.rib.Rib.unset.Goals as goal
+use Rattle.adj_rib_out.proofs.table.Table.unset.Goals as goal
 
 pub returns-in_default-clause-set : goal.returns-in_default-clause-set
 returns-in_default-clause-set c = set.nothing_set (parts c.self.inside) c.self.invariant c.args.key.now

@@ -2,7 +2,7 @@ use Rattle.std.proofs.Common.{sym, ap, ◌∙◌, false}
 use Rattle.std.specs.Prelude.{is_some}
 use Rattle.adj_rib_out.proofs.InsideLemmas.{parts}
 use Rattle.adj_rib_out.proofs.PassLemmas as pass
-use Rattle.adj_rib_out.proofs.rib.Rib.sent.Goals as goal
+use Rattle.adj_rib_out.proofs.table.Table.sent.Goals as goal
 
 pub invariant_of-self : goal.invariant_of-self
 invariant_of-self c = pass.made_kept (parts c.self.inside) c.self.invariant c.args.self.now c.self.view_is

@@ -8,7 +8,7 @@ use Rattle.adj_rib_out.proofs.InsideLemmas.{parts}
 use Rattle.adj_rib_out.proofs.NumberLemmas.{shown_none}
 use Rattle.adj_rib_out.proofs.RowLemmas.{some_is, none_some}
 use Rattle.adj_rib_out.proofs.SetLemmas as set
-use Rattle.adj_rib_out.proofs.rib.Rib.set.Goals as goal
+use Rattle.adj_rib_out.proofs.table.Table.set.Goals as goal
 
 pub returns-in_default-clause-set : goal.returns-in_default-clause-set
 returns-in_default-clause-set c = absurd (set.not_ready (parts c.self.inside) c.args.self.now c.args.key.now

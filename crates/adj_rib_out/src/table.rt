@@ -1,0 +1,171 @@
+//! The table.
+
+ghost use Rattle.std.specs.Prelude.{◌≡◌, ◌≤◌, ◌+◌, ◌&&◌, ℕ, false, not, length, if◌then◌else◌};
+ghost use Rattle.std.specs.Prelude.{IfOk, OnOk, OnErr, Some, None, IsSome, IsTrue};
+ghost use Rattle.std.specs.Option.{option_map};
+ghost use Rattle.route_values.specs.declared.key.Key.{Key as ValueOfKey};
+ghost use Rattle.adj_rib_out.specs.State.{is_ready, route_at, value_at, route_of};
+ghost use Rattle.adj_rib_out.specs.Calls.{Readies, ReadiesSome, Trims, Sets, Restarts, Refreshes};
+ghost use Rattle.adj_rib_out.specs.Calls.{is_open, Freezes, Passes};
+ghost use Rattle.adj_rib_out.specs.Nodes.{pair_at, next_of, nodes, is_node, is_kept, AreApart};
+ghost use Rattle.adj_rib_out.specs.Told.{route_told, next_told, items_left};
+
+use crate::chosen::Chosen;
+use crate::entry::{Entry, Owner};
+use crate::keys::{count, key_at, place_of};
+use crate::showing::{choose, either, owes_marker, parity_of, shown_number, unless};
+use crate::values::{Values, pair};
+use batch_cutter::Due;
+use route_values::{Attrs, Caps, Family, Key, NoMemory};
+use slot_batches::Slots;
+use std::marker::Model;
+
+/// One neighbour's table: routes by their keys, what its session was sent of them, and what is left of the open batch.
+/// Keys and values stand ready before they are used; what stands ready is taken out by `trim` alone.
+///
+/// # Order
+///
+/// Each pair of the table stands at one place. A batch gives withdrawals first, IPv4 before IPv6, and then
+/// announcements in groups of one family and value.
+#[derive(Drop)]
+pub struct Table {
+    keys: Vec<Option<Key>>,
+    routes: Vec<Option<Chosen>>,
+    values: Values,
+    slots: Slots,
+    caps: Option<Caps>,
+    begun: bool,
+    ipv4_stale: bool,
+    ipv6_stale: bool,
+    ipv4_marker: bool,
+    ipv6_marker: bool,
+}
+
+impl Model for Table {
+    ghost use Rattle.adj_rib_out.specs.State.{State};
+    ghost use Rattle.adj_rib_out.specs.Kept.{parts_of, seen, IsTable};
+
+    ghost Value = { State };
+
+    ghost view = { λ r. seen (parts_of r.keys.items r.routes.items r.values r.slots r.caps r.begun r.ipv4_stale
+        r.ipv6_stale r.ipv4_marker r.ipv6_marker) };
+
+    ghost invariant = { λ r. IsTable (parts_of r.keys.items r.routes.items r.values r.slots r.caps r.begun r.ipv4_stale
+        r.ipv6_stale r.ipv4_marker r.ipv6_marker) };
+}
+
+impl Table {
+    /// Gives the key a route, with the value of this number. Key and value stand ready.
+    pub fn set(&mut self, key: &Key, value: usize, owner: Owner)
+        requires key { IsTrue (is_ready self.old key.now) }
+        requires value { IsSome (value_at self.old value) }
+        ensures set { Sets self.old self.new key.now
+            (option_map (λ written. route_of self.old.side written owner) (value_at self.old value)) }
+        ensures nodes { nodes self.new
+            ≡ nodes self.old + (if is_node self.old key.now then 0 else 1) }
+    {
+        let Some(place) = place_of(&self.keys, key) else {
+            return;
+        };
+        let chosen = Some(Chosen { value, owner });
+        let number = shown_number(&self.values, self.caps, key, chosen);
+        choose(&mut self.routes, place, chosen);
+        self.slots.show(place, number);
+    }
+
+    /// Takes the key's route out of the table. A key without one changes nothing.
+    pub fn unset(&mut self, key: &Key)
+        ensures set { Sets self.old self.new key.now None }
+        ensures nodes { nodes self.new
+            + (if is_node self.old key.now && not (is_kept self.old key.now) then 1 else 0)
+            ≡ nodes self.old }
+    {
+        let Some(place) = place_of(&self.keys, key) else {
+            return;
+        };
+        choose(&mut self.routes, place, None);
+        self.slots.show(place, parity_of(key.family()));
+    }
+
+    /// All routes of the family are to be sent again, by the next batch (RFC 2918). Without a session nothing changes.
+    pub fn refresh(&mut self, family: Family)
+        ensures refreshes { Refreshes self.old self.new family }
+        ensures nodes { nodes self.new ≡ nodes self.old }
+    {
+        if self.caps.is_some() {
+            self.slots.refresh(parity_of(family));
+        }
+    }
+
+    /// Opens a batch with all that is owed, or none where nothing is.
+    pub fn freeze(&mut self)
+        requires { is_open self.old ≡ false }
+        ensures freezes { Freezes self.old self.new }
+        ensures nodes { nodes self.new ≡ nodes self.old }
+    {
+        let ipv4_again = either(self.slots.is_again(0), self.ipv4_stale);
+        let ipv6_again = either(self.slots.is_again(1), self.ipv6_stale);
+        let ipv4_marker = owes_marker(self.caps, self.begun, Family::Ipv4);
+        let ipv6_marker = owes_marker(self.caps, self.begun, Family::Ipv6);
+        self.slots.freeze();
+        let opens = either(
+            self.slots.front().is_some(),
+            either(ipv4_marker, ipv6_marker),
+        );
+        self.begun = either(self.begun, opens);
+        self.ipv4_stale = unless(ipv4_again, opens);
+        self.ipv6_stale = unless(ipv6_again, opens);
+        self.ipv4_marker = ipv4_marker;
+        self.ipv6_marker = ipv6_marker;
+    }
+
+    /// Moves past what is due: it was sent. Where no batch is open nothing changes.
+    pub fn sent(&mut self)
+        ensures passes { Passes self.old self.new }
+        ensures nodes { nodes self.new ≤ nodes self.old }
+    {
+        if self.slots.front().is_some() {
+            self.slots.pass();
+        } else if self.ipv4_marker {
+            self.ipv4_marker = false;
+        } else {
+            self.ipv6_marker = false;
+        }
+    }
+
+    /// What the session that stands carries, or None where none stands.
+    pub fn caps(&self) -> Option<Caps>
+        ensures { result ≡ option_map (λ session. session.caps) self.now.session }
+    {
+        self.caps
+    }
+
+    /// The route of a key, or None where the table has none.
+    pub fn get(&self, key: &Key) -> Option<Entry<'_>>
+        ensures { option_map route_told result ≡ route_at self.now key.now }
+    {
+        match place_of(&self.keys, key) {
+            Some(place) => self.values.at(&self.routes, place),
+            None => None,
+        }
+    }
+
+    /// The number that the places of all pairs are below.
+    pub fn places(&self) -> usize
+        ensures places { result ≡ length self.now.rows }
+        ensures apart { AreApart self.now.rows }
+    {
+        count(&self.keys)
+    }
+
+    /// The pair that stands at a place, or None where none does.
+    pub fn at(&self, place: usize) -> Option<(&Key, Entry<'_>)>
+        ensures { option_map (λ pair. (pair.0.now, route_told pair.1)) result
+            ≡ pair_at self.now place }
+    {
+        pair(
+            key_at(&self.keys, place),
+            self.values.at(&self.routes, place),
+        )
+    }
+}
