@@ -10,3 +10,4 @@ pub mod InsideLemmas
 pub mod PassLemmas
 pub mod RefreshLemmas
 pub mod OwedLemmas
+pub mod FreezeLemmas

@@ -40,7 +40,7 @@ value_parity w parity small = omega arith
 above_one : (a : ℕ) → 1 < a → nat_lt 1 a ≡ true
 above_one a above = grind (arith, common_steps)
 
-not_above : (a : ℕ) → a < 2 → nat_lt 1 a ≡ false
+pub not_above : (a : ℕ) → a < 2 → nat_lt 1 a ≡ false
 not_above a below = grind (arith, common_steps)
 
 pub some_of : {X : Type 0} (o : Option X) → IsSome o → (x : X) × (o ≡ Some x)

@@ -93,8 +93,8 @@ module _ (p : Parts) (table : IsTable p) (key : Key) where
   pub not_owed : place_of p.keys key ≡ None → IsOwed (seen p) key → ⊥
   not_owed none owed =
       let shown : shown_at (seen p) key ≡ None = shown_cases p table.kept p.caps key
-          ∙ ap (shown_in p.values table.kept p.caps key) (route_seen p key ∙ ap (option_and_then (route_by p)) none)
-          ∙ shown_nowhere p.caps in
+      ∙ ap (shown_in p.values table.kept p.caps key) (route_seen p key ∙ ap (option_and_then (route_by p)) none)
+      ∙ shown_nowhere p.caps in
       let told : told_at (seen p) key ≡ None = told_seen p key ∙ ap (option_and_then (told_by p)) none in
       elim owed [
         | inl differs ↦ differs (told ∙ sym shown)
@@ -138,7 +138,7 @@ module _ (p : Parts) (table : IsTable p) (key : Key) where
         → is_refreshed (option_map (session_of p) caps) (family_of_key key) ≡ true
     refreshed_here None is above flag =
         let now = (table.taken place key stands_here).now
-            ∙ ap (λ (o : Option Caps). shown_number o p.values key (chosen_at p.routes place)) is in
+        ∙ ap (λ (o : Option Caps). shown_number o p.values key (chosen_at p.routes place)) is in
         let small = parity_small key in
         absurd (omega arith)
     refreshed_here (Some caps) is above flag = refreshed_by p caps (family_of_key key) flag
@@ -148,8 +148,10 @@ module _ (p : Parts) (table : IsTable p) (key : Key) where
         (flag_of p.slots.even_again p.slots.odd_again (link p.slots.nows place)) owed) [
           | inl differs ↦ inl (λ same. differs (same_number p.values table.kept (parity key) (link p.slots.sents place)
               (link p.slots.nows place) sent_number now_number (sym told_here ∙ same ∙ shown_here)))
-          | inr again ↦ inr (has_shown again.0,
-              refreshed_here p.caps refl again.0 (sym flag_here ∙ again.1))
+          | inr again ↦ inr (
+            has_shown again.0,
+            refreshed_here p.caps refl again.0 (sym flag_here ∙ again.1),
+          )
         ]
 
     silent_less : (family : Family) → family_of_key key ≡ family → flag_by p.ipv4_stale p.ipv6_stale family ≡ true

@@ -30,7 +30,7 @@ use Rattle.adj_rib_out.proofs.SeenNodeLemmas.{node_by, said_by, nodes_seen}
 cons_nil : {X : Type 0} {x : X} {xs : List X} → x ∷ xs ≡ [] → ⊥
 cons_nil {X} {x} {xs} same = cc
 
-said_attrs : (n : ℕ) (attrs : Option WireAttrs) → attrs_said (says_by n attrs) ≡ attrs
+pub said_attrs : (n : ℕ) (attrs : Option WireAttrs) → attrs_said (says_by n attrs) ≡ attrs
 said_attrs n None = refl
 said_attrs n (Some a) = refl
 
@@ -67,10 +67,12 @@ module _ (p : Parts) (table : IsTable p) (item : SlotItem) (rest : List SlotItem
 
   -- the table behind the item
   abbrev pub passed : Parts
-  passed = record p { slots = record p.slots {
-    sents = slice_set p.slots.sents item.slot item.value;
-    left = drop 1 p.slots.left;
-  } }
+  passed = record p {
+    slots = record p.slots {
+      sents = slice_set p.slots.sents item.slot item.value;
+      left = drop 1 p.slots.left;
+    };
+  }
 
   rest_is : passed.slots.left ≡ rest
   rest_is = ap (drop 1) is

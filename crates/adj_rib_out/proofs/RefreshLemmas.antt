@@ -81,19 +81,19 @@ module _ (p : Parts) (table : IsTable p) (family : Family) where
     })
 
     module _ (parity : ℕ) (is : parity ≡ parity_of family) (slots : Slots) (set : slots ≡ slots_again parity p.slots)
-        where
-      abbrev pub made : Parts
-      made = record p { slots = slots }
+      where
+        abbrev pub made : Parts
+        made = record p { slots = slots }
 
-      made_is : refreshed ≡ made
-      made_is = ap (λ (s : Slots). record p { slots = s }) (sym (set ∙ ap (λ (n : ℕ). slots_again n p.slots) is))
+        made_is : refreshed ≡ made
+        made_is = ap (λ (s : Slots). record p { slots = s }) (sym (set ∙ ap (λ (n : ℕ). slots_again n p.slots) is))
 
-      pub made_kept : IsTable made
-      made_kept = subst IsTable made_is refreshed_kept
+        pub made_kept : IsTable made
+        made_kept = subst IsTable made_is refreshed_kept
 
-      pub made_refreshes : Refreshes state (seen made) family
-      made_refreshes = subst (λ (s : State). Refreshes s (seen made) family) view
-          (subst (λ (q : Parts). Refreshes (seen p) (seen q) family) made_is refreshed_refreshes)
+        pub made_refreshes : Refreshes state (seen made) family
+        made_refreshes = subst (λ (s : State). Refreshes s (seen made) family) view
+            (subst (λ (q : Parts). Refreshes (seen p) (seen q) family) made_is refreshed_refreshes)
 
-      pub made_nodes : nodes (seen made) ≡ nodes state
-      made_nodes = sym (ap (λ (q : Parts). nodes (seen q)) made_is) ∙ refreshed_nodes ∙ ap nodes view
+        pub made_nodes : nodes (seen made) ≡ nodes state
+        made_nodes = sym (ap (λ (q : Parts). nodes (seen q)) made_is) ∙ refreshed_nodes ∙ ap nodes view
