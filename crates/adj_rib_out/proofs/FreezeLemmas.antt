@@ -15,7 +15,7 @@ use Rattle.slot_batches.specs.Left.{slots_of, value_left, item_of}
 use Rattle.slot_batches.specs.Slots.{Slots, Opens, owes, flag_of, is_owed}
 use Rattle.slot_batches.specs.declared.slots.Item.{Item as SlotItem}
 use Rattle.adj_rib_out.specs.State.{State, Item, shown_at}
-use Rattle.adj_rib_out.specs.Batch.{IsOwed, attrs_said, item_at, is_left}
+use Rattle.adj_rib_out.specs.Batch.{IsOwed, attrs_said, item_at, is_left, AreOnce, AreTogether, AreNumberedAlike}
 use Rattle.adj_rib_out.specs.Places.{key_at, place_of}
 use Rattle.adj_rib_out.specs.Kept.{Parts, Values, IsTable, IsNumber, IsLeft, AreLeft, IsSilent, seen, attrs_under, parity}
 use Rattle.adj_rib_out.specs.Kept.{items_seen, says_by, owes_end, markers_of}
@@ -23,6 +23,7 @@ use Rattle.adj_rib_out.proofs.RowLemmas.{found, stands, within, some_is, none_so
 use Rattle.adj_rib_out.proofs.PartLemmas.{item_seen, none_seen, is_left_item, left_slot, left_by}
 use Rattle.adj_rib_out.proofs.NumberLemmas.{not_above}
 use Rattle.adj_rib_out.proofs.PassLemmas.{said_attrs}
+use Rattle.adj_rib_out.proofs.GroupLemmas.{once_seen, together_seen, alike, numbered}
 use Rattle.adj_rib_out.proofs.OwedLemmas.{not_owed, owed_then, then_owed, now_number, sent_number, shown_here}
 
 cond_some : (test : Bool) (now number : ℕ) → cond test (Some now) None ≡ Some number → (test ≡ true) × (now ≡ number)
@@ -134,3 +135,37 @@ module _ (p : Parts) (table : IsTable p) (left : List SlotItem) (opens : Opens p
           | Some place ↦ λ here. said_by_item (is_owed p.slots place) (link p.slots.nows place) item
               (sym (said_here place here) ∙ is) ∙ sym (shown_here p table key place here)
         ] refl
+
+  -- ---- the order
+
+  pub once_left : AreOnce (items_seen p.keys p.values left)
+  once_left = once_seen p.values table.kept p.keys table.once left all_left opens.once
+
+  pub together_left : AreTogether (items_seen p.keys p.values left)
+  together_left = together_seen p.values table.kept p.keys table.once left all_left opens.together
+
+  record IsSaid (key : Key) (item : Item) : Type 0 where
+    pub number : ℕ
+    pub is : numbered p.values key number ≡ item
+    pub kept : IsNumber p.values (parity key) number
+
+  said_if : (key : Key) (owed : Bool) (number : ℕ) (item : Item) → IsNumber p.values (parity key) number
+      → left_by p.values key (cond owed (Some number) None) ≡ Some item → IsSaid key item
+  said_if key true number item is said = record { number = number; is = some_is said; kept = is }
+  said_if key false number item is said = absurd (none_some said)
+
+  is_said : (key : Key) (item : Item) → item_at (items_seen p.keys p.values left) key ≡ Some item → IsSaid key item
+  is_said key item is = elim (place_of p.keys key) as (λ o. place_of p.keys key ≡ o → IsSaid key item) [
+    | None ↦ λ none. absurd (none_some (sym (none_seen p.keys table.once p.values key none left all_left) ∙ is))
+    | Some place ↦ λ here. said_if key (is_owed p.slots place) (link p.slots.nows place) item
+        (now_number p table key place here) (sym (said_here key place here) ∙ is)
+  ] refl
+
+  pub alike_left : (key other : Key) (a b : Item) → item_at (items_seen p.keys p.values left) key ≡ Some a
+      → item_at (items_seen p.keys p.values left) other ≡ Some b → AreNumberedAlike a b
+  alike_left key other a b at_a at_b =
+      let said_a = is_said key a at_a in
+      let said_b = is_said other b at_b in
+      subst (λ (i : Item). AreNumberedAlike i b) said_a.is
+      (subst (λ (i : Item). AreNumberedAlike (numbered p.values key said_a.number) i) said_b.is
+      (alike p.values table.kept key other said_a.number said_b.number said_a.kept said_b.kept))

@@ -11,3 +11,4 @@ pub mod PassLemmas
 pub mod RefreshLemmas
 pub mod OwedLemmas
 pub mod FreezeLemmas
+pub mod GroupLemmas
