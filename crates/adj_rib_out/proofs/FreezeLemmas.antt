@@ -26,12 +26,12 @@ use Rattle.adj_rib_out.proofs.PassLemmas.{said_attrs}
 use Rattle.adj_rib_out.proofs.GroupLemmas.{once_seen, together_seen, alike, numbered}
 use Rattle.adj_rib_out.proofs.OwedLemmas.{not_owed, owed_then, then_owed, now_number, sent_number, shown_here}
 
-cond_some : (test : Bool) (now number : ℕ) → cond test (Some now) None ≡ Some number → (test ≡ true) × (now ≡ number)
+pub cond_some : (test : Bool) (now number : ℕ) → cond test (Some now) None ≡ Some number → (test ≡ true) × (now ≡ number)
 cond_some true now number is = (refl, some_is is)
 cond_some false now number is = absurd (none_some is)
 
 -- a slot that has what was sent and no value isn't owed
-idle_owes : (a b : ℕ) (again : Bool) → a ≡ b → b < 2 → owes a b again ≡ false
+pub idle_owes : (a b : ℕ) (again : Bool) → a ≡ b → b < 2 → owes a b again ≡ false
 idle_owes a b again same below = ap (λ (t : Bool). not t || (nat_lt 1 b && again)) (eq-eqb a b same)
     ∙ ap (λ (t : Bool). t && again) (not_above b below)
 
@@ -51,7 +51,7 @@ module _ (keys : List (Option Key)) (values : Values) where
   )
 
 module _ (p : Parts) (table : IsTable p) (left : List SlotItem) (opens : Opens p.slots left) where
-  below_nows : (place : ℕ) (key : Key) → key_at p.keys place ≡ Some key → place < length p.slots.nows
+  pub below_nows : (place : ℕ) (key : Key) → key_at p.keys place ≡ Some key → place < length p.slots.nows
   below_nows place key here = subst (λ n. place < n) (sym table.nows_length) (within p.keys key place here)
 
   -- what is left of a slot is owed, and of a key
@@ -75,7 +75,7 @@ module _ (p : Parts) (table : IsTable p) (left : List SlotItem) (opens : Opens p
             (now_number p table key slot (stands p.keys key slot table.once here));
       }
 
-  left_number : (slot number : ℕ) → value_left left slot ≡ Some number → IsLeft p.keys p.values (item_of slot number)
+  pub left_number : (slot number : ℕ) → value_left left slot ≡ Some number → IsLeft p.keys p.values (item_of slot number)
   left_number slot number is = elim (key_at p.keys slot) as (λ o. key_at p.keys slot ≡ o
       → IsLeft p.keys p.values (item_of slot number)) [
         | None ↦ λ none. absurd (left_vacant slot number none (opens.within slot

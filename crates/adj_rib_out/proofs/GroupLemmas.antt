@@ -55,7 +55,7 @@ module _ (values : Values) (kept : AreKept values) where
         (sym (said_attrs m (attrs_under values m)) ∙ kind.attrs ∙ said_attrs n (attrs_under values n))
 
   module _ (keys : List (Option Key)) (once : StandOnce keys) where
-    seen_by : (item : SlotItem) (rest : List SlotItem) (left : IsLeft keys values item)
+    pub seen_by : (item : SlotItem) (rest : List SlotItem) (left : IsLeft keys values item)
         → items_seen keys values (item ∷ rest) ≡ item_for values item left.key ∷ items_seen keys values rest
     seen_by item rest left = ap (λ (o : Option Key). elim o [
       | Some k ↦ item_for values item k ∷ items_seen keys values rest

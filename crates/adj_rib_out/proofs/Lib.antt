@@ -12,3 +12,4 @@ pub mod RefreshLemmas
 pub mod OwedLemmas
 pub mod FreezeLemmas
 pub mod GroupLemmas
+pub mod FrozenLemmas

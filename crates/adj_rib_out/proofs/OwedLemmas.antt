@@ -49,12 +49,12 @@ abbrev pub flag_by : Bool → Bool → Family → Bool
 flag_by even odd Ipv4 = even
 flag_by even odd Ipv6 = odd
 
-flag_is : (even odd : Bool) (number : ℕ) (family : Family) → number % 2 ≡ parity_of family
+pub flag_is : (even odd : Bool) (number : ℕ) (family : Family) → number % 2 ≡ parity_of family
     → flag_of even odd number ≡ flag_by even odd family
 flag_is even odd number Ipv4 is = ap (λ (n : ℕ). cond (n == 0) even odd) is
 flag_is even odd number Ipv6 is = ap (λ (n : ℕ). cond (n == 0) even odd) is
 
-or_cases : (a b : Bool) → (a || b) ≡ true → (a ≡ true) ⊎ (b ≡ true)
+pub or_cases : (a b : Bool) → (a || b) ≡ true → (a ≡ true) ⊎ (b ≡ true)
 or_cases true b is = inl refl
 or_cases false b is = inr is
 

@@ -27,7 +27,7 @@ use Rattle.adj_rib_out.proofs.KeepLemmas.{set_at, ready_kept, routes_kept, told_
 use Rattle.adj_rib_out.proofs.NodeLemmas.{count_fewer}
 use Rattle.adj_rib_out.proofs.SeenNodeLemmas.{node_by, said_by, nodes_seen}
 
-cons_nil : {X : Type 0} {x : X} {xs : List X} → x ∷ xs ≡ [] → ⊥
+pub cons_nil : {X : Type 0} {x : X} {xs : List X} → x ∷ xs ≡ [] → ⊥
 cons_nil {X} {x} {xs} same = cc
 
 pub said_attrs : (n : ℕ) (attrs : Option WireAttrs) → attrs_said (says_by n attrs) ≡ attrs

@@ -1,4 +1,4 @@
-use Rattle.adj_rib_out.proofs.FreezeLemmas.{said_shown}
+use Rattle.adj_rib_out.proofs.FrozenLemmas.{frozen_kept}
 use Rattle.adj_rib_out.proofs.table.Table.freeze.Goals as goal
 
 pub freeze-requires : goal.freeze-requires
