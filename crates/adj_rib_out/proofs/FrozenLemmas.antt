@@ -261,3 +261,109 @@ module _ (p : Parts) (table : IsTable p) (left : List SlotItem) (opens : Opens p
       routes = routes_kept p frozen refl refl refl;
       ready = ready_kept p frozen refl refl;
     }
+
+    -- ---- nodes
+
+    shown_some : (caps : Option Caps) (key : Key) (route : Option Route)
+        → is_some (shown_in p.values table.kept caps key route) ≡ true → is_some route ≡ true
+    shown_some None key route is = absurd (false≢true is)
+    shown_some (Some caps) key None is = absurd (false≢true (sym (elim (is_visible caps key) as (λ t.
+        is_some (cond {A = Option WireAttrs} t None None) ≡ false) [ true ↦ refl | false ↦ refl ]) ∙ is))
+    shown_some (Some caps) key (Some route) is = refl
+
+    said_route : (place : ℕ) (o : Option ℕ) → value_left left place ≡ o → said_by p.values o ≡ true
+        → is_some (route_by p place) ≡ true
+    said_route place None is said = absurd (false≢true said)
+    said_route place (Some number) is said =
+        let item = left_number p table left opens place number is in
+        let below = below_nows p table left opens place item.key item.stands in
+        let owed = cond_some (is_owed p.slots place) (link p.slots.nows place) number
+            (sym (opens.owed place below) ∙ is) in
+        shown_some p.caps item.key (route_by p place) (ap is_some (sym (attrs_shown p.values table.kept p.caps item.key
+            (chosen_at p.routes place)) ∙ ap (attrs_under p.values)
+            (sym (table.taken place item.key item.stands).now ∙ owed.1)) ∙ said)
+
+    node_with : (route told said : Bool) → (said ≡ true → route ≡ true) → (route || (told || said))
+        ≡ (route || (told || false))
+    node_with true told said then = refl
+    node_with false told true then = absurd (false≢true (then refl))
+    node_with false told false then = refl
+
+    module _ (closed : p.slots.left ≡ []) where
+      node_is : (place : ℕ) → node_by frozen place ≡ node_by p place
+      node_is place = node_with (is_some (route_by p place)) (is_some (told_by p place))
+          (said_by p.values (value_left left place)) (said_route place (value_left left place) refl)
+          ∙ ap (λ (l : List SlotItem). is_some (route_by p place) || (is_some (told_by p place)
+          || said_by p.values (value_left l place))) (sym closed)
+
+      pub frozen_nodes : nodes (seen frozen) ≡ nodes (seen p)
+      frozen_nodes = nodes_seen frozen frozen_kept
+          ∙ count_same (node_by p) (node_by frozen) p.keys 0 (λ place from. node_is place)
+          ∙ sym (nodes_seen p table)
+
+-- ---- the call
+
+not_open : (items : List Item) (state : State) → state.left ≡ items → is_open state ≡ false → items ≡ []
+not_open [] state is closed = refl
+not_open (item ∷ items) state is closed = absurd (false≢true (sym closed ∙ ap (λ (l : List Item). elim l [
+  | _ ∷ _ ↦ true
+  | [] ↦ elim state.markers [ _ ∷ _ ↦ true | [] ↦ false ]
+]) is))
+
+module _ (p : Parts) (table : IsTable p) (state : State) (view : seen p ≡ state) (closed : is_open state ≡ false) where
+  none_left : (items : List SlotItem) → AreLeft p.keys p.values items → items_seen p.keys p.values items ≡ []
+      → items ≡ []
+  none_left [] each is = refl
+  none_left (item ∷ rest) each is = absurd (cons_nil (sym (seen_by p.values table.kept p.keys table.once item rest each.0)
+      ∙ is))
+
+  pub left_closed : p.slots.left ≡ []
+  left_closed = none_left p.slots.left table.left (not_open (items_seen p.keys p.values p.slots.left) (seen p) refl
+      (ap is_open view ∙ closed))
+
+  module _ (slots : Slots) (opens : Opens p.slots slots.left)
+      (rest : slots ≡ record p.slots { left = slots.left; even_again = false; odd_again = false })
+      (any begun ipv4_stale ipv6_stale ipv4 ipv6 : Bool)
+      (is_4 : ipv4 ≡ owes_end p.caps p.begun Ipv4) (is_6 : ipv6 ≡ owes_end p.caps p.begun Ipv6)
+      (is_any : any ≡ (is_some (slice_get slots.left 0) || (ipv4 || ipv6)))
+      (is_begun : begun ≡ (p.begun || any))
+      (is_stale4 : ipv4_stale ≡ ((p.slots.even_again || p.ipv4_stale) && not any))
+      (is_stale6 : ipv6_stale ≡ ((p.slots.odd_again || p.ipv6_stale) && not any)) where
+    abbrev pub with : Slots → Bool → Bool → Bool → Bool → Bool → Parts
+    with s b x y m n = record p {
+      slots = s;
+      begun = b;
+      ipv4_stale = x;
+      ipv6_stale = y;
+      ipv4_marker = m;
+      ipv6_marker = n;
+    }
+
+    abbrev rested : Slots
+    rested = record p.slots { left = slots.left; even_again = false; odd_again = false }
+
+    any_is : any ≡ (is_some (slice_get slots.left 0)
+        || (owes_end p.caps p.begun Ipv4 || owes_end p.caps p.begun Ipv6))
+    any_is = is_any ∙ ap₂ (λ (a b : Bool). is_some (slice_get slots.left 0) || (a || b)) is_4 is_6
+
+    abbrev pub made : Parts
+    made = with slots begun ipv4_stale ipv6_stale ipv4 ipv6
+
+    made_is : frozen p table slots.left opens any any_is ≡ made
+    made_is = sym (ap (λ (s : Slots). with s begun ipv4_stale ipv6_stale ipv4 ipv6) rest
+        ∙ ap₂ (λ (b x : Bool). with rested b x ipv6_stale ipv4 ipv6) is_begun is_stale4
+        ∙ ap₂ (λ (y m : Bool). with rested (p.begun || any) ((p.slots.even_again || p.ipv4_stale) && not any) y m ipv6)
+        is_stale6 is_4
+        ∙ ap (λ (n : Bool). with rested (p.begun || any) ((p.slots.even_again || p.ipv4_stale) && not any)
+        ((p.slots.odd_again || p.ipv6_stale) && not any) (owes_end p.caps p.begun Ipv4) n) is_6)
+
+    pub made_kept : IsTable made
+    made_kept = subst IsTable made_is (frozen_kept p table slots.left opens any any_is)
+
+    pub made_freezes : Freezes state (seen made)
+    made_freezes = subst (λ (s : State). Freezes s (seen made)) view
+        (subst (λ (q : Parts). Freezes (seen p) (seen q)) made_is (frozen_freezes p table slots.left opens any any_is))
+
+    pub made_nodes : nodes (seen made) ≡ nodes state
+    made_nodes = sym (ap (λ (q : Parts). nodes (seen q)) made_is)
+        ∙ frozen_nodes p table slots.left opens any any_is left_closed ∙ ap nodes view
