@@ -104,12 +104,12 @@ module _ (p : Parts) (table : IsTable p) (left : List SlotItem) (opens : Opens p
       let owed = cond_some (is_owed p.slots slot) (link p.slots.nows slot) number (sym (opens.owed slot below) ∙ is) in
       let taken = table.taken slot item.key item.stands in
       let now : link p.slots.nows slot ≡ parity item.key = taken.now
-          ∙ ap (λ (o : Option Caps). shown_number o p.values item.key (chosen_at p.routes slot)) none in
+      ∙ ap (λ (o : Option Caps). shown_number o p.values item.key (chosen_at p.routes slot)) none in
       let small = sent_small none slot (family_of_key item.key) taken.sent.parity_is in
       let parity_is = taken.sent.parity_is in
       let parity_below = parity_small item.key in
       false≢true (sym (idle_owes (link p.slots.sents slot) (link p.slots.nows slot)
-          (flag_of p.slots.even_again p.slots.odd_again (link p.slots.nows slot)) (omega arith) (omega arith)) ∙ owed.0)
+      (flag_of p.slots.even_again p.slots.odd_again (link p.slots.nows slot)) (omega arith) (omega arith)) ∙ owed.0)
 
   -- a family that is to be sent again, and of which nothing is owed, is silent
   silent_place : (family : Family) → left ≡ []
@@ -119,7 +119,7 @@ module _ (p : Parts) (table : IsTable p) (left : List SlotItem) (opens : Opens p
   silent_place family none flag place key here is =
       let number = now_number p table key place (stands p.keys key place table.once here) in
       let same : link p.slots.nows place % 2 ≡ parity_of family =
-          number.parity_is ∙ sym (table.taken place key here).sent.parity_is ∙ is in
+      number.parity_is ∙ sym (table.taken place key here).sent.parity_is ∙ is in
       less (link p.slots.sents place) (link p.slots.nows place)
       (ap (owes (link p.slots.sents place) (link p.slots.nows place))
       (sym (flag_is p.slots.even_again p.slots.odd_again (link p.slots.nows place) family same ∙ flag))
@@ -278,10 +278,10 @@ module _ (p : Parts) (table : IsTable p) (left : List SlotItem) (opens : Opens p
         let item = left_number p table left opens place number is in
         let below = below_nows p table left opens place item.key item.stands in
         let owed = cond_some (is_owed p.slots place) (link p.slots.nows place) number
-            (sym (opens.owed place below) ∙ is) in
+        (sym (opens.owed place below) ∙ is) in
         shown_some p.caps item.key (route_by p place) (ap is_some (sym (attrs_shown p.values table.kept p.caps item.key
-            (chosen_at p.routes place)) ∙ ap (attrs_under p.values)
-            (sym (table.taken place item.key item.stands).now ∙ owed.1)) ∙ said)
+        (chosen_at p.routes place)) ∙ ap (attrs_under p.values)
+        (sym (table.taken place item.key item.stands).now ∙ owed.1)) ∙ said)
 
     node_with : (route told said : Bool) → (said ≡ true → route ≡ true) → (route || (told || said))
         ≡ (route || (told || false))

@@ -13,3 +13,4 @@ pub mod OwedLemmas
 pub mod FreezeLemmas
 pub mod GroupLemmas
 pub mod FrozenLemmas
+pub mod RestartLemmas

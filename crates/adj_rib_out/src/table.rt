@@ -87,6 +87,20 @@ impl Table {
         self.slots.show(place, parity_of(key.family()));
     }
 
+    /// No session stands.
+    pub fn down(&mut self)
+        ensures restarts { Restarts self.old self.new None }
+        ensures nodes { nodes self.new ≤ nodes self.old }
+    {
+        self.slots.reset();
+        self.caps = None;
+        self.begun = false;
+        self.ipv4_stale = false;
+        self.ipv6_stale = false;
+        self.ipv4_marker = false;
+        self.ipv6_marker = false;
+    }
+
     /// All routes of the family are to be sent again, by the next batch (RFC 2918). Without a session nothing changes.
     pub fn refresh(&mut self, family: Family)
         ensures refreshes { Refreshes self.old self.new family }
