@@ -1,30 +1,25 @@
 -- A batch begins.
-use Rattle.std.proofs.Common.{◌≡◌, ◌≢◌, ◌⊎◌, ◌↔◌, ◌==◌, ℕ, ◌+◌, ◌-◌, ◌*◌, ◌<◌, ◌≤◌, ◌%◌, Bool, true, false, List, [], ◌∷◌}
-use Rattle.std.proofs.Common.{cond, Option, Some, None, zero, suc, length, refl, sym, ap, ap₂, subst, ◌∙◌, arith, inl, inr}
-use Rattle.std.specs.Option.{option_map, option_and_then}
-use Rattle.std.specs.Prelude.{is_some, slice_get, IsSome, IsTrue, nat_lt, ◌||◌, ◌&&◌, not}
-use Rattle.std.proofs.lemmas.Bool.{false≢true, eq-eqb, ne_eqb, eqb-true, eqb-false}
+use Rattle.std.proofs.Common.{◌≡◌, ◌↔◌, ℕ, ◌<◌, Bool, true, false, List, [], ◌∷◌}
+use Rattle.std.proofs.Common.{cond, Option, Some, None, length, refl, sym, ap, subst, ◌∙◌}
+use Rattle.std.specs.Prelude.{is_some, IsTrue, nat_lt, ◌||◌, ◌&&◌, not}
+use Rattle.std.proofs.lemmas.Bool.{false≢true, eq-eqb, ne_eqb}
 use Rattle.linked_pending.specs.Links.{link}
-use Rattle.linked_pending.specs.Listing.{has, AreApart}
-use Rattle.route_values.specs.declared.addr.Family.{Family}
-use Rattle.route_values.specs.declared.addr.Family.TheVariants.{Ipv4, Ipv6}
-use Rattle.route_values.specs.declared.attrs.WireAttrs.{WireAttrs}
+use Rattle.linked_pending.specs.Listing.{AreApart}
 use Rattle.route_values.specs.declared.key.Key.{Key}
-use Rattle.route_values.specs.Caps.{Caps}
 use Rattle.slot_batches.specs.Left.{slots_of, value_left, item_of}
-use Rattle.slot_batches.specs.Slots.{Slots, Opens, owes, flag_of, is_owed}
+use Rattle.slot_batches.specs.Slots.{Opens, owes, flag_of, is_owed}
 use Rattle.slot_batches.specs.declared.slots.Item.{Item as SlotItem}
-use Rattle.adj_rib_out.specs.State.{State, Item, shown_at}
+use Rattle.adj_rib_out.specs.State.{Item, shown_at}
 use Rattle.adj_rib_out.specs.Batch.{IsOwed, attrs_said, item_at, is_left, AreOnce, AreTogether, AreNumberedAlike}
 use Rattle.adj_rib_out.specs.Places.{key_at, place_of}
-use Rattle.adj_rib_out.specs.Kept.{Parts, Values, IsTable, IsNumber, IsLeft, AreLeft, IsSilent, seen, attrs_under, parity}
-use Rattle.adj_rib_out.specs.Kept.{items_seen, says_by, owes_end, markers_of}
+use Rattle.adj_rib_out.specs.Kept.{Parts, Values, IsTable, IsNumber, IsLeft, AreLeft, seen, attrs_under, parity}
+use Rattle.adj_rib_out.specs.Kept.{items_seen}
 use Rattle.adj_rib_out.proofs.RowLemmas.{found, stands, within, some_is, none_some}
 use Rattle.adj_rib_out.proofs.PartLemmas.{item_seen, none_seen, is_left_item, left_slot, left_by}
 use Rattle.adj_rib_out.proofs.NumberLemmas.{not_above}
 use Rattle.adj_rib_out.proofs.PassLemmas.{said_attrs}
 use Rattle.adj_rib_out.proofs.GroupLemmas.{once_seen, together_seen, alike, numbered}
-use Rattle.adj_rib_out.proofs.OwedLemmas.{not_owed, owed_then, then_owed, now_number, sent_number, shown_here}
+use Rattle.adj_rib_out.proofs.OwedLemmas.{not_owed, owed_then, then_owed, now_number, shown_here}
 
 pub cond_some : (test : Bool) (now number : ℕ) → cond test (Some now) None ≡ Some number → (test ≡ true) × (now ≡ number)
 cond_some true now number is = (refl, some_is is)

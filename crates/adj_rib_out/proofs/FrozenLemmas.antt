@@ -1,9 +1,9 @@
 -- The table behind a freeze.
-use Rattle.std.proofs.Common.{◌≡◌, ◌≢◌, ◌⊎◌, ◌↔◌, ◌==◌, ℕ, ◌+◌, ◌-◌, ◌*◌, ◌<◌, ◌≤◌, ◌%◌, Bool, true, false, List, [], ◌∷◌}
-use Rattle.std.proofs.Common.{cond, Option, Some, None, zero, suc, length, refl, sym, ap, ap₂, subst, ◌∙◌, arith, inl, inr}
-use Rattle.std.specs.Option.{option_map, option_and_then}
-use Rattle.std.specs.Prelude.{is_some, slice_get, filter, IsSome, IsTrue, nat_lt, ◌||◌, ◌&&◌, not}
-use Rattle.std.proofs.lemmas.Bool.{false≢true, eq-eqb, ne_eqb, eqb-true, eqb-false, and_parts}
+use Rattle.std.proofs.Common.{◌≡◌, ◌==◌, ℕ, ◌<◌, ◌%◌, Bool, true, false, List, [], ◌∷◌}
+use Rattle.std.proofs.Common.{cond, Option, Some, None, refl, sym, ap, ap₂, subst, ◌∙◌, arith, inl, inr}
+use Rattle.std.specs.Option.{option_map}
+use Rattle.std.specs.Prelude.{is_some, slice_get, filter, nat_lt, ◌||◌, ◌&&◌, not}
+use Rattle.std.proofs.lemmas.Bool.{false≢true, eq-eqb, eqb-true, eqb-false, and_parts}
 use Rattle.std.proofs.lemmas.Grind.{common_steps}
 use Rattle.linked_pending.specs.Links.{link}
 use Rattle.route_values.specs.declared.addr.Family.{Family}
@@ -19,12 +19,12 @@ use Rattle.adj_rib_out.specs.State.{State, Session, Route, Item, is_visible}
 use Rattle.adj_rib_out.specs.Batch.{owed_markers, owes_marker}
 use Rattle.adj_rib_out.specs.Calls.{Freezes, is_open, session_frozen}
 use Rattle.adj_rib_out.specs.Nodes.{nodes}
-use Rattle.adj_rib_out.specs.Places.{key_at, place_of}
-use Rattle.adj_rib_out.specs.Kept.{Parts, Values, IsTable, IsNumber, IsLeft, AreLeft, IsSilent, seen, attrs_under, parity}
-use Rattle.adj_rib_out.specs.Kept.{items_seen, item_for, owes_end, markers_of, parity_of, route_by, told_by, session_of}
-use Rattle.adj_rib_out.specs.Kept.{shown_number, chosen_at, route_in}
-use Rattle.adj_rib_out.proofs.RowLemmas.{found, stands, within, some_is, none_some}
-use Rattle.adj_rib_out.proofs.NumberLemmas.{attrs_shown, shown_in, not_above, parity_small}
+use Rattle.adj_rib_out.specs.Places.{key_at}
+use Rattle.adj_rib_out.specs.Kept.{Parts, IsTable, AreLeft, IsSilent, seen, attrs_under, parity}
+use Rattle.adj_rib_out.specs.Kept.{items_seen, owes_end, markers_of, parity_of, route_by, told_by, session_of}
+use Rattle.adj_rib_out.specs.Kept.{shown_number, chosen_at}
+use Rattle.adj_rib_out.proofs.RowLemmas.{stands, none_some}
+use Rattle.adj_rib_out.proofs.NumberLemmas.{attrs_shown, shown_in, parity_small}
 use Rattle.adj_rib_out.proofs.KeepLemmas.{ready_kept, routes_kept, told_kept}
 use Rattle.adj_rib_out.proofs.NodeLemmas.{count_same}
 use Rattle.adj_rib_out.proofs.SeenNodeLemmas.{node_by, said_by, nodes_seen}

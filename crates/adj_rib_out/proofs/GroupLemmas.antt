@@ -1,9 +1,8 @@
 -- Items of one kind stand together where numbers do.
-use Rattle.std.proofs.Common.{◌≡◌, ◌≢◌, ◌⊎◌, ◌↔◌, ◌==◌, ℕ, ◌+◌, ◌-◌, ◌*◌, ◌<◌, ◌≤◌, ◌%◌, Bool, true, false, List, [], ◌∷◌}
-use Rattle.std.proofs.Common.{cond, Option, Some, None, zero, suc, length, refl, sym, ap, ap₂, subst, ◌∙◌, arith, inl, inr}
-use Rattle.std.specs.Option.{option_map}
-use Rattle.std.specs.Prelude.{is_some, IsSome, ◌||◌}
-use Rattle.std.proofs.lemmas.Bool.{false≢true, eq-eqb, eqb-true}
+use Rattle.std.proofs.Common.{◌≡◌, ◌==◌, ℕ, ◌%◌, Bool, true, false, List, [], ◌∷◌}
+use Rattle.std.proofs.Common.{Option, Some, None, refl, sym, ap, subst, ◌∙◌, arith, inl, inr}
+use Rattle.std.specs.Prelude.{is_some, ◌||◌}
+use Rattle.std.proofs.lemmas.Bool.{false≢true, eq-eqb}
 use Rattle.linked_pending.specs.Listing.{has, AreApart}
 use Rattle.route_values.specs.declared.addr.Family.{Family}
 use Rattle.route_values.specs.declared.addr.Family.TheVariants.{Ipv4, Ipv6}
@@ -16,9 +15,9 @@ use Rattle.slot_batches.specs.Left.{ComesNextOrNever as NumberComes}
 use Rattle.slot_batches.specs.Left.{AreTogether as NumbersTogether}
 use Rattle.slot_batches.specs.declared.slots.Item.{Item as SlotItem}
 use Rattle.adj_rib_out.specs.State.{Item}
-use Rattle.adj_rib_out.specs.Batch.{attrs_said, is_left, item_at, AreOnce, AreTogether, ComesNextOrNever, HasNoOther, IsOfKind}
+use Rattle.adj_rib_out.specs.Batch.{attrs_said, AreOnce, AreTogether, ComesNextOrNever, HasNoOther, IsOfKind}
 use Rattle.adj_rib_out.specs.Batch.{AreNumberedAlike}
-use Rattle.adj_rib_out.specs.Places.{key_at, place_of, StandOnce}
+use Rattle.adj_rib_out.specs.Places.{StandOnce}
 use Rattle.adj_rib_out.specs.Kept.{Values, AreKept, IsNumber, IsLeft, AreLeft, attrs_under, parity, parity_of}
 use Rattle.adj_rib_out.specs.Kept.{items_seen, item_for, says_by}
 use Rattle.adj_rib_out.proofs.RowLemmas.{stands, some_is, none_some}

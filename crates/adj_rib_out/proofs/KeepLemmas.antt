@@ -1,16 +1,16 @@
 -- What stays of a table where some of its parts do.
-use Rattle.std.proofs.Common.{◌≡◌, ◌≢◌, ◌==◌, ℕ, ◌+◌, ◌-◌, ◌*◌, ◌<◌, ◌≤◌, Bool, true, false, List, [], ◌∷◌, cond}
-use Rattle.std.proofs.Common.{Option, Some, None, zero, suc, length, refl, sym, ap, ap₂, subst, ◌∙◌, arith}
+use Rattle.std.proofs.Common.{◌≡◌, ◌==◌, ℕ, ◌<◌, true, false, List, cond}
+use Rattle.std.proofs.Common.{Option, None, length, refl, sym, ap, subst, ◌∙◌}
 use Rattle.std.specs.Prelude.{is_some, slice_set, slice_index_or}
 use Rattle.std.specs.Option.{option_map, option_and_then}
-use Rattle.std.proofs.lemmas.Bool.{eq-eqb, ne_eqb, eqb-true, eqb-false}
+use Rattle.std.proofs.lemmas.Bool.{eqb-true, eqb-false}
 use Rattle.std.proofs.lemmas.List.{get_or-set_same, get_or-set_other}
 use Rattle.linked_pending.specs.Links.{link}
 use Rattle.route_values.specs.declared.key.Key.{Key}
-use Rattle.adj_rib_out.specs.State.{State, route_at, told_at}
+use Rattle.adj_rib_out.specs.State.{told_at}
 use Rattle.adj_rib_out.specs.declared.chosen.Chosen.{Chosen}
-use Rattle.adj_rib_out.specs.Calls.{KeepsRoutes, KeepsSession, KeepsBatch, KeepsReady}
-use Rattle.adj_rib_out.specs.Places.{key_at, place_of}
+use Rattle.adj_rib_out.specs.Calls.{KeepsRoutes, KeepsReady}
+use Rattle.adj_rib_out.specs.Places.{place_of}
 use Rattle.adj_rib_out.specs.Kept.{Parts, Values, seen, route_by, told_by, route_in, chosen_at, attrs_under}
 use Rattle.adj_rib_out.proofs.RowLemmas.{keys_of_rows}
 use Rattle.adj_rib_out.proofs.PartLemmas.{route_seen, told_seen, ready_seen, value_seen}

@@ -1,11 +1,10 @@
 -- The numbers of slots stand for attributes, each for its own.
-use Rattle.std.proofs.Common.{◌≡◌, ◌≢◌, ℕ, ◌+◌, ◌-◌, ◌*◌, ◌/◌, ◌%◌, ◌<◌, ◌≤◌, Bool, true, false, List, [], ◌∷◌, cond}
-use Rattle.std.proofs.Common.{Option, Some, None, zero, suc, length, refl, sym, ap, ap₂, subst, ◌∙◌, arith, inl, inr}
+use Rattle.std.proofs.Common.{◌≡◌, ℕ, ◌+◌, ◌-◌, ◌*◌, ◌/◌, ◌%◌, ◌<◌, true, false, List, [], ◌∷◌, cond}
+use Rattle.std.proofs.Common.{Option, Some, None, zero, suc, length, refl, sym, ap, ◌∙◌, arith}
 use Rattle.std.specs.Prelude.{IsSome, is_some, nat_lt, slice_index_or}
 use Rattle.std.specs.Option.{option_map}
 use Rattle.std.proofs.lemmas.Grind.{common_steps}
 use Rattle.std.proofs.lemmas.Bool.{false≢true}
-use Rattle.route_values.specs.declared.addr.Family.{Family}
 use Rattle.route_values.specs.declared.addr.Family.TheVariants.{Ipv4, Ipv6}
 use Rattle.route_values.specs.declared.attrs.Attrs.{Attrs}
 use Rattle.route_values.specs.declared.attrs.WireAttrs.{WireAttrs}
@@ -17,7 +16,7 @@ use Rattle.adj_rib_out.specs.declared.chosen.Chosen.{Chosen}
 use Rattle.adj_rib_out.specs.State.{Route, is_visible, route_of}
 use Rattle.adj_rib_out.specs.Kept.{Values, AreKept, IsNumber, written_under, wire_under, attrs_under, number_by}
 use Rattle.adj_rib_out.specs.Kept.{number_of, shown_number, route_in, parity, parity_of}
-use Rattle.adj_rib_out.proofs.RowLemmas.{some_is, none_some}
+use Rattle.adj_rib_out.proofs.RowLemmas.{none_some}
 
 pub parity_small : (key : Key) → parity key < 2
 parity_small key = elim (family_of_key key) as (λ family. parity_of family < 2) [

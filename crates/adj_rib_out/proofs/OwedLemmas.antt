@@ -1,9 +1,9 @@
 -- A batch that begins owes a key just where the key's slot is owed.
-use Rattle.std.proofs.Common.{◌≡◌, ◌≢◌, ◌⊎◌, ◌↔◌, ◌==◌, ℕ, ◌+◌, ◌-◌, ◌*◌, ◌<◌, ◌≤◌, ◌%◌, Bool, true, false, List, [], ◌∷◌}
-use Rattle.std.proofs.Common.{cond, Option, Some, None, zero, suc, length, refl, sym, ap, ap₂, subst, ◌∙◌, arith, inl, inr}
+use Rattle.std.proofs.Common.{◌≡◌, ◌⊎◌, ◌==◌, ℕ, ◌<◌, ◌%◌, Bool, true, false}
+use Rattle.std.proofs.Common.{cond, Option, Some, None, refl, sym, ap, subst, ◌∙◌, arith, inl, inr}
 use Rattle.std.specs.Option.{option_map, option_and_then}
-use Rattle.std.specs.Prelude.{is_some, IsSome, IsTrue, nat_lt, ◌||◌, ◌&&◌, not}
-use Rattle.std.proofs.lemmas.Bool.{false≢true, eq-eqb, ne_eqb, eqb-true, eqb-false}
+use Rattle.std.specs.Prelude.{is_some, IsSome, nat_lt, ◌||◌, ◌&&◌, not}
+use Rattle.std.proofs.lemmas.Bool.{false≢true, ne_eqb, eqb-false}
 use Rattle.std.proofs.lemmas.Grind.{common_steps}
 use Rattle.linked_pending.specs.Links.{link}
 use Rattle.route_values.specs.declared.addr.Family.{Family}
@@ -12,13 +12,13 @@ use Rattle.route_values.specs.declared.attrs.WireAttrs.{WireAttrs}
 use Rattle.route_values.specs.declared.key.Key.{Key}
 use Rattle.route_values.specs.Caps.{Caps}
 use Rattle.route_values.specs.Key.{family_of_key}
-use Rattle.slot_batches.specs.Slots.{Slots, owes, flag_of, is_owed}
-use Rattle.adj_rib_out.specs.State.{State, Session, Route, told_at, route_at, shown_at, shown_by, is_refreshed, is_visible}
+use Rattle.slot_batches.specs.Slots.{owes, flag_of, is_owed}
+use Rattle.adj_rib_out.specs.State.{told_at, route_at, shown_at, shown_by, is_refreshed, is_visible}
 use Rattle.adj_rib_out.specs.Batch.{IsOwed}
 use Rattle.adj_rib_out.specs.Places.{key_at, place_of}
-use Rattle.adj_rib_out.specs.Kept.{Parts, Values, AreKept, IsTable, IsNumber, IsSilent, seen, route_by, told_by, attrs_under}
+use Rattle.adj_rib_out.specs.Kept.{Parts, AreKept, IsTable, IsNumber, seen, route_by, told_by, attrs_under}
 use Rattle.adj_rib_out.specs.Kept.{chosen_at, parity, parity_of, session_of, shown_number}
-use Rattle.adj_rib_out.proofs.RowLemmas.{found, none_some}
+use Rattle.adj_rib_out.proofs.RowLemmas.{found}
 use Rattle.adj_rib_out.proofs.PartLemmas.{route_seen, told_seen}
 use Rattle.adj_rib_out.proofs.NumberLemmas.{same_number, attrs_shown, shown_in, shown_is}
 use Rattle.adj_rib_out.proofs.NumberLemmas.{attrs_of_value, above_if, parity_small}

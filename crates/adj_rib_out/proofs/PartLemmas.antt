@@ -1,26 +1,22 @@
 -- What is seen of a table, by the places of its keys.
-use Rattle.std.proofs.Common.{◌≡◌, ◌≢◌, ◌==◌, ℕ, ◌+◌, ◌-◌, ◌*◌, ◌/◌, ◌%◌, ◌<◌, ◌≤◌, Bool, true, false, List, [], ◌∷◌}
-use Rattle.std.proofs.Common.{cond, map, Option, Some, None, zero, suc, length, refl, sym, ap, ap₂, subst, ◌∙◌, arith}
-use Rattle.std.specs.Prelude.{IsSome, is_some, slice_get, slice_index_or, IsTrue, ◌||◌}
+use Rattle.std.proofs.Common.{◌≡◌, ◌==◌, ℕ, Bool, true, false, List, [], ◌∷◌}
+use Rattle.std.proofs.Common.{cond, map, Option, Some, None, zero, suc, refl, sym, ap, subst, ◌∙◌, arith}
+use Rattle.std.specs.Prelude.{is_some, slice_get, slice_index_or, ◌||◌}
 use Rattle.std.specs.Option.{option_map, option_and_then}
-use Rattle.std.proofs.lemmas.Bool.{false≢true}
-use Rattle.linked_pending.specs.Links.{link}
 use Rattle.linked_pending.specs.Listing.{has}
 use Rattle.route_values.specs.declared.attrs.Attrs.{Attrs}
-use Rattle.route_values.specs.declared.attrs.WireAttrs.{WireAttrs}
 use Rattle.route_values.specs.declared.key.Key.{Key}
-use Rattle.route_values.specs.Caps.{Caps}
 use Rattle.route_values.specs.Key.{same_key}
 use Rattle.slot_batches.specs.Left.{slots_of, value_left}
 use Rattle.slot_batches.specs.declared.slots.Item.{Item as SlotItem}
-use Rattle.adj_rib_out.specs.State.{State, Row, Route, Item, is_ready, route_at, told_at, value_at, shown_at}
+use Rattle.adj_rib_out.specs.State.{State, Route, Item, is_ready, route_at, told_at, value_at}
 use Rattle.adj_rib_out.specs.Batch.{item_at, is_left}
-use Rattle.adj_rib_out.specs.Places.{key_at, place_of, rows_from, StandOnce}
+use Rattle.adj_rib_out.specs.Places.{key_at, place_of, StandOnce}
 use Rattle.adj_rib_out.specs.Kept.{Parts, Values, seen, route_by, told_by, items_seen, item_for, attrs_under, says_by}
 use Rattle.adj_rib_out.specs.Kept.{written_under, AreLeft}
 use Rattle.adj_rib_out.specs.Nodes.{pair_at}
 use Rattle.adj_rib_out.specs.Told.{pair_if}
-use Rattle.adj_rib_out.proofs.RowLemmas.{pair_rows, route_rows, told_rows, ready_rows, found, stands, same_place, some_is, none_some}
+use Rattle.adj_rib_out.proofs.RowLemmas.{pair_rows, route_rows, told_rows, ready_rows, stands, same_place, none_some}
 use Rattle.route_values.proofs.KeyLemmas.{same_key_is}
 
 module _ (parts : Parts) (key : Key) where

@@ -1,12 +1,11 @@
 -- The first item of the open batch is passed, or its first marker.
-use Rattle.std.proofs.Common.{◌≡◌, ◌≢◌, ◌==◌, ℕ, ◌+◌, ◌-◌, ◌*◌, ◌<◌, ◌≤◌, Bool, true, false, List, [], ◌∷◌, cond}
-use Rattle.std.proofs.Common.{Option, Some, None, zero, suc, length, refl, sym, ap, ap₂, subst, ◌∙◌, arith, drop}
-use Rattle.std.specs.Option.{option_map, option_and_then}
-use Rattle.std.specs.Prelude.{◌%◌, MatchOption, slice_get, is_some, IsSome, IsTrue, slice_set, slice_index_or, ◌||◌, ◌&&◌, not}
-use Rattle.std.proofs.lemmas.Bool.{false≢true, eq-eqb, ne_eqb, eqb-true, eqb-false}
+use Rattle.std.proofs.Common.{◌≡◌, ◌==◌, ℕ, ◌<◌, ◌≤◌, Bool, true, false, List, [], ◌∷◌, cond}
+use Rattle.std.proofs.Common.{Option, Some, None, length, refl, sym, ap, ap₂, subst, ◌∙◌, arith, drop}
+use Rattle.std.specs.Prelude.{MatchOption, slice_get, is_some, slice_set, ◌||◌}
+use Rattle.std.proofs.lemmas.Bool.{false≢true, ne_eqb, eqb-true}
 use Rattle.std.proofs.lemmas.List.{length-set}
 use Rattle.linked_pending.specs.Links.{link}
-use Rattle.linked_pending.specs.Listing.{has, AreApart}
+use Rattle.linked_pending.specs.Listing.{AreApart}
 use Rattle.route_values.specs.declared.attrs.WireAttrs.{WireAttrs}
 use Rattle.route_values.specs.declared.key.Key.{Key}
 use Rattle.route_values.specs.Key.{same_key}
@@ -14,14 +13,14 @@ use Rattle.slot_batches.specs.Left.{slots_of, value_left, AreTogether}
 use Rattle.slot_batches.specs.Left.{values_of as values_left}
 use Rattle.slot_batches.specs.Slots.{Slots}
 use Rattle.slot_batches.specs.declared.slots.Item.{Item as SlotItem}
-use Rattle.adj_rib_out.specs.State.{State, Route, Item, told_at}
+use Rattle.adj_rib_out.specs.State.{State, Item, told_at}
 use Rattle.adj_rib_out.specs.Batch.{attrs_said}
-use Rattle.adj_rib_out.specs.Calls.{Passes, PassesDue, PassesItem, PassesMarker}
+use Rattle.adj_rib_out.specs.Calls.{Passes, PassesDue}
 use Rattle.adj_rib_out.specs.Nodes.{nodes}
-use Rattle.adj_rib_out.specs.Places.{key_at, place_of}
-use Rattle.adj_rib_out.specs.Kept.{Parts, Values, IsTable, IsNumber, IsLeft, AreLeft, seen, route_by, told_by, items_seen}
+use Rattle.adj_rib_out.specs.Places.{key_at}
+use Rattle.adj_rib_out.specs.Kept.{Parts, Values, IsTable, IsNumber, AreLeft, seen, route_by, told_by, items_seen}
 use Rattle.adj_rib_out.specs.Kept.{item_for, says_by, attrs_under, markers_of, parity}
-use Rattle.adj_rib_out.proofs.RowLemmas.{found, stands, within, changed, some_is, none_some}
+use Rattle.adj_rib_out.proofs.RowLemmas.{stands, within, changed, some_is, none_some}
 use Rattle.adj_rib_out.proofs.PartLemmas.{told_seen, left_slot}
 use Rattle.adj_rib_out.proofs.KeepLemmas.{set_at, ready_kept, routes_kept, told_kept}
 use Rattle.adj_rib_out.proofs.NodeLemmas.{count_fewer}

@@ -1,6 +1,6 @@
 -- A session stands on which nothing was sent, or none.
-use Rattle.std.proofs.Common.{◌≡◌, ◌≢◌, ◌==◌, ℕ, ◌+◌, ◌-◌, ◌*◌, ◌<◌, ◌≤◌, ◌%◌, Bool, true, false, List, [], ◌∷◌}
-use Rattle.std.proofs.Common.{cond, Option, Some, None, zero, suc, length, refl, sym, ap, ap₂, subst, ◌∙◌, arith, inl, inr}
+use Rattle.std.proofs.Common.{◌≡◌, ℕ, ◌+◌, ◌*◌, ◌<◌, ◌≤◌, ◌%◌, Bool, true, false, List, [], ◌∷◌}
+use Rattle.std.proofs.Common.{Option, Some, None, zero, suc, length, refl, sym, ap, ap₂, subst, ◌∙◌, arith}
 use Rattle.std.specs.Option.{option_map, option_and_then}
 use Rattle.std.specs.Prelude.{is_some, ◌||◌}
 use Rattle.std.proofs.lemmas.Bool.{false≢true}
@@ -14,17 +14,16 @@ use Rattle.slot_batches.specs.Left.{value_left, slots_of, AreTogether}
 use Rattle.slot_batches.specs.Left.{values_of as values_left}
 use Rattle.slot_batches.specs.Slots.{Slots}
 use Rattle.slot_batches.specs.declared.slots.Item.{Item as SlotItem}
-use Rattle.adj_rib_out.specs.State.{State, Session, told_at}
+use Rattle.adj_rib_out.specs.State.{State}
 use Rattle.adj_rib_out.specs.Calls.{Restarts, fresh}
 use Rattle.adj_rib_out.specs.Nodes.{nodes}
 use Rattle.adj_rib_out.specs.Places.{key_at, place_of}
-use Rattle.adj_rib_out.specs.Kept.{Parts, Values, IsTable, IsNumber, AreLeft, seen, attrs_under, parity, route_by, told_by}
+use Rattle.adj_rib_out.specs.Kept.{Parts, IsTable, AreLeft, seen, parity, route_by, told_by}
 use Rattle.adj_rib_out.specs.Kept.{items_seen, session_of, shown_number, chosen_at}
 use Rattle.adj_rib_out.proofs.NumberLemmas.{attrs_of_none, parity_small, shown_is}
 use Rattle.adj_rib_out.proofs.PartLemmas.{told_seen}
 use Rattle.adj_rib_out.proofs.KeepLemmas.{ready_kept, routes_kept}
 use Rattle.adj_rib_out.proofs.NodeLemmas.{count_fewer}
-use Rattle.adj_rib_out.proofs.RowLemmas.{within}
 use Rattle.adj_rib_out.proofs.SeenNodeLemmas.{node_by, said_by, nodes_seen}
 
 -- slots of which nothing was sent, as a session is to have them

@@ -1,18 +1,16 @@
 -- Which keys of a table are nodes, and how many.
-use Rattle.std.proofs.Common.{◌≡◌, ◌≢◌, ◌==◌, ℕ, ◌+◌, ◌-◌, ◌*◌, ◌<◌, ◌≤◌, Bool, true, false, List, [], ◌∷◌, cond}
-use Rattle.std.proofs.Common.{Option, Some, None, zero, suc, length, refl, sym, ap, ap₂, subst, ◌∙◌, arith}
+use Rattle.std.proofs.Common.{◌≡◌, ℕ, Bool, false}
+use Rattle.std.proofs.Common.{Option, Some, None, refl, ap, ap₂, subst, ◌∙◌, arith}
 use Rattle.std.specs.Prelude.{is_some, ◌||◌}
 use Rattle.std.specs.Option.{option_map, option_and_then}
 use Rattle.route_values.specs.declared.key.Key.{Key}
 use Rattle.slot_batches.specs.Left.{value_left}
-use Rattle.adj_rib_out.specs.State.{State, Row, Route, Item, route_at, told_at}
-use Rattle.adj_rib_out.specs.Batch.{item_at}
 use Rattle.adj_rib_out.specs.Nodes.{announces, is_kept, is_node, is_node_row, nodes}
-use Rattle.adj_rib_out.specs.Places.{key_at, place_of, row_of}
-use Rattle.adj_rib_out.specs.Kept.{Parts, Values, IsTable, seen, route_by, told_by, attrs_under, says_by}
-use Rattle.adj_rib_out.proofs.RowLemmas.{found, stands}
+use Rattle.adj_rib_out.specs.Places.{place_of}
+use Rattle.adj_rib_out.specs.Kept.{Parts, Values, IsTable, seen, route_by, told_by, attrs_under}
+use Rattle.adj_rib_out.proofs.RowLemmas.{stands}
 use Rattle.adj_rib_out.proofs.PartLemmas.{route_seen, told_seen, item_seen, none_seen, left_by}
-use Rattle.adj_rib_out.proofs.NodeLemmas.{count_places, count_rows, one}
+use Rattle.adj_rib_out.proofs.NodeLemmas.{count_places, count_rows}
 
 -- whether the open batch announces attributes by a number
 abbrev pub said_by : Values → Option ℕ → Bool

@@ -1,9 +1,9 @@
 -- A key of the table is given a route, or loses it.
-use Rattle.std.proofs.Common.{◌≡◌, ◌≢◌, ◌==◌, ℕ, ◌+◌, ◌-◌, ◌*◌, ◌<◌, ◌≤◌, Bool, true, false, List, [], ◌∷◌, cond}
-use Rattle.std.proofs.Common.{Option, Some, None, zero, suc, length, refl, sym, ap, ap₂, subst, ◌∙◌, arith}
+use Rattle.std.proofs.Common.{◌≡◌, ◌==◌, ℕ, ◌+◌, ◌<◌, Bool, true, false, List, cond}
+use Rattle.std.proofs.Common.{Option, Some, None, length, refl, sym, ap, ap₂, subst, ◌∙◌, arith}
 use Rattle.std.specs.Option.{option_map, option_and_then}
-use Rattle.std.specs.Prelude.{◌%◌, is_some, IsSome, IsTrue, slice_set, slice_index_or, ◌||◌, ◌&&◌, not}
-use Rattle.std.proofs.lemmas.Bool.{false≢true, eq-eqb, ne_eqb, eqb-true, eqb-false}
+use Rattle.std.specs.Prelude.{◌%◌, is_some, IsSome, IsTrue, slice_set, ◌||◌, ◌&&◌, not}
+use Rattle.std.proofs.lemmas.Bool.{false≢true, eq-eqb, ne_eqb, eqb-true}
 use Rattle.std.proofs.lemmas.List.{length-set}
 use Rattle.linked_pending.specs.Links.{link}
 use Rattle.route_values.specs.declared.key.Key.{Key}
@@ -23,7 +23,7 @@ use Rattle.adj_rib_out.proofs.RowLemmas.{found, within, changed, some_is, none_s
 use Rattle.adj_rib_out.proofs.PartLemmas.{route_seen, ready_seen, value_seen}
 use Rattle.adj_rib_out.proofs.NumberLemmas.{shown_below, shown_is}
 use Rattle.adj_rib_out.proofs.KeepLemmas.{set_at, ready_kept, told_kept}
-use Rattle.adj_rib_out.proofs.NodeLemmas.{count_places, count_changed, one}
+use Rattle.adj_rib_out.proofs.NodeLemmas.{count_changed, one}
 use Rattle.adj_rib_out.proofs.SeenNodeLemmas.{node_by, kept_by, node_seen, kept_seen, nodes_seen, no_node}
 
 pub route_if : (values : Values) (test : Bool) (r s : Option Chosen)

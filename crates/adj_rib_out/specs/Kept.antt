@@ -1,8 +1,8 @@
 -- How a table is kept: keys at places, the value that each was given, values and wire attributes under numbers, and a
 -- slot for each place. A slot's number is 2 * (w + 1) + family for the wire attributes under w, and the family alone
 -- where there are none.
-use Rattle.std.specs.Prelude.{ℕ, ◌≡◌, ◌≢◌, ◌+◌, ◌-◌, ◌*◌, ◌/◌, ◌%◌, ◌<◌, ◌≤◌, ◌&&◌, ◌||◌, ⊤, not, Bool, true, false, List, [], ◌∷◌, map}
-use Rattle.std.specs.Prelude.{if◌then◌else◌, Option, Some, None, IsSome, IsTrue, length, nat_lt, slice_index_or}
+use Rattle.std.specs.Prelude.{ℕ, ◌≡◌, ◌+◌, ◌-◌, ◌*◌, ◌/◌, ◌%◌, ◌<◌, ◌&&◌, ◌||◌, ⊤, not, Bool, true, false, List, [], ◌∷◌, map}
+use Rattle.std.specs.Prelude.{if◌then◌else◌, Option, Some, None, IsSome, length, nat_lt, slice_index_or}
 use Rattle.std.specs.Option.{option_map}
 use Rattle.linked_pending.specs.Links.{link}
 use Rattle.linked_pending.specs.Listing.{AreApart}
@@ -22,7 +22,7 @@ use Rattle.slot_batches.specs.Slots.{Slots}
 use Rattle.slot_batches.specs.declared.slots.Item.{Item as SlotItem}
 use Rattle.adj_rib_out.specs.declared.chosen.Chosen.{Chosen}
 use Rattle.adj_rib_out.specs.declared.entry.Owner.{Owner}
-use Rattle.adj_rib_out.specs.State.{State, Session, Route, Row, Item, is_visible, route_of}
+use Rattle.adj_rib_out.specs.State.{State, Session, Route, Item, is_visible, route_of}
 use Rattle.adj_rib_out.specs.Places.{key_at, rows_from, StandOnce}
 
 -- values as they are written, each with the number of its wire attributes, and wire attributes

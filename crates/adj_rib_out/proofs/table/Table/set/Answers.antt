@@ -1,11 +1,10 @@
-use Rattle.std.proofs.Common.{◌∙◌, Option, Some, None, List, refl, sym, ap, subst}
+use Rattle.std.proofs.Common.{◌∙◌, Option, Some, None, List, sym, ap, subst}
 use Rattle.std.specs.Prelude.{IsSome}
 use Rattle.route_values.specs.declared.key.Key.{Key}
 use Rattle.adj_rib_out.specs.declared.chosen.Chosen.{Chosen}
 use Rattle.adj_rib_out.specs.Places.{place_of}
 use Rattle.adj_rib_out.specs.Kept.{written_under}
 use Rattle.adj_rib_out.proofs.InsideLemmas.{parts}
-use Rattle.adj_rib_out.proofs.NumberLemmas.{shown_none}
 use Rattle.adj_rib_out.proofs.RowLemmas.{some_is, none_some}
 use Rattle.adj_rib_out.proofs.SetLemmas as set
 use Rattle.adj_rib_out.proofs.table.Table.set.Goals as goal

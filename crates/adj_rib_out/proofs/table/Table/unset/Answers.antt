@@ -1,12 +1,10 @@
-use Rattle.std.proofs.Common.{◌∙◌, Option, Some, None, List, refl, sym, ap, subst}
-use Rattle.std.specs.Prelude.{IsSome}
+use Rattle.std.proofs.Common.{◌∙◌, Option, None, List, refl, sym, ap}
 use Rattle.route_values.specs.declared.key.Key.{Key}
-use Rattle.adj_rib_out.specs.declared.chosen.Chosen.{Chosen}
 use Rattle.adj_rib_out.specs.Places.{place_of}
 use Rattle.adj_rib_out.specs.Kept.{parity_of}
 use Rattle.adj_rib_out.proofs.InsideLemmas.{parts}
 use Rattle.adj_rib_out.proofs.NumberLemmas.{shown_none}
-use Rattle.adj_rib_out.proofs.RowLemmas.{some_is, none_some}
+use Rattle.adj_rib_out.proofs.RowLemmas.{none_some}
 use Rattle.adj_rib_out.proofs.SetLemmas as set
 use Rattle.adj_rib_out.proofs.table.Table.unset.Goals as goal
 
