@@ -14,3 +14,4 @@ pub mod FreezeLemmas
 pub mod GroupLemmas
 pub mod FrozenLemmas
 pub mod RestartLemmas
+pub mod AskedLemmas

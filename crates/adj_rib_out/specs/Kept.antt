@@ -16,7 +16,7 @@ use Rattle.route_values.specs.Caps.{Caps}
 use Rattle.route_values.specs.Key.{family_of_key}
 use Rattle.route_values.specs.Sent.{sent}
 use Rattle.route_values.specs.Visible.{has_family}
-use Rattle.slot_batches.specs.Left.{slots_of, AreTogether}
+use Rattle.slot_batches.specs.Left.{slots_of, value_left, AreTogether}
 use Rattle.slot_batches.specs.Left.{values_of as values_left}
 use Rattle.slot_batches.specs.Slots.{Slots}
 use Rattle.slot_batches.specs.declared.slots.Item.{Item as SlotItem}
@@ -223,3 +223,14 @@ pub record IsTable (parts : Parts) : Type 0 where
       × (markers_of parts.ipv4_marker parts.ipv6_marker ≡ [])
   pub ipv4_stale : parts.ipv4_stale ≡ true → IsSilent parts.slots.sents parts.slots.left 0
   pub ipv6_stale : parts.ipv6_stale ≡ true → IsSilent parts.slots.sents parts.slots.left 1
+
+-- ---- what is asked of a slot
+
+-- whether a number that is left is a value
+abbrev pub has_value : Option ℕ → Bool
+has_value None = false
+has_value (Some number) = nat_lt 1 number
+
+-- whether a value of the slot was sent, or is left to be
+abbrev pub keeps : Slots → ℕ → Bool
+keeps slots place = nat_lt 1 (link slots.sents place) || has_value (value_left slots.left place)

@@ -2,11 +2,12 @@
 
 ghost use Rattle.std.specs.Prelude.{◌≡◌, ◌<◌, ◌+◌, ◌*◌, ◌^◌, ◌||◌, ◌&&◌, not, length, slice_set};
 ghost use Rattle.adj_rib_out.specs.State.{is_visible};
-ghost use Rattle.adj_rib_out.specs.Kept.{number_of, owes_end, parity_of, shown_number};
+ghost use Rattle.adj_rib_out.specs.Kept.{has_value, keeps, number_of, owes_end, parity_of, shown_number};
 
 use crate::chosen::Chosen;
 use crate::values::Values;
 use route_values::{Caps, Family, Key};
+use slot_batches::Slots;
 
 /// The number of a slot of the family that has no attributes.
 pub fn parity_of(family: Family) -> usize
@@ -88,4 +89,21 @@ pub fn unless(one: bool, other: bool) -> bool
     ensures { result ≡ (one && not other) }
 {
     one && !other
+}
+
+/// Whether a value of the slot was sent, or is left to be.
+pub fn is_kept_at(slots: &Slots, place: usize) -> bool
+    requires { place < length slots.now.nows }
+    ensures { result ≡ keeps slots.now place }
+{
+    either(1 < slots.sent(place), has_value(slots.left(place)))
+}
+
+fn has_value(left: Option<usize>) -> bool
+    ensures { result ≡ has_value left }
+{
+    match left {
+        Some(number) => 1 < number,
+        None => false,
+    }
 }

@@ -13,7 +13,7 @@ ghost use Rattle.adj_rib_out.specs.Told.{route_told, next_told, items_left};
 use crate::chosen::Chosen;
 use crate::entry::{Entry, Owner};
 use crate::keys::{count, key_at, place_of};
-use crate::showing::{choose, either, owes_marker, parity_of, shown_number, unless};
+use crate::showing::{choose, either, is_kept_at, owes_marker, parity_of, shown_number, unless};
 use crate::values::{Values, pair};
 use batch_cutter::Due;
 use route_values::{Attrs, Caps, Family, Key, NoMemory};
@@ -181,5 +181,15 @@ impl Table {
             key_at(&self.keys, place),
             self.values.at(&self.routes, place),
         )
+    }
+
+    /// Whether the key would be a node without the table.
+    pub fn is_kept(&self, key: &Key) -> bool
+        ensures { result ≡ is_kept self.now key.now }
+    {
+        match place_of(&self.keys, key) {
+            Some(place) => is_kept_at(&self.slots, place),
+            None => false,
+        }
     }
 }

@@ -1,0 +1,21 @@
+use Rattle.std.proofs.Common.{Option, List, ap, sym, ◌∙◌}
+use Rattle.route_values.specs.declared.key.Key.{Key}
+use Rattle.adj_rib_out.specs.Places.{place_of}
+use Rattle.adj_rib_out.proofs.InsideLemmas.{parts}
+use Rattle.adj_rib_out.proofs.AskedLemmas as asked
+use Rattle.adj_rib_out.proofs.table.Table.is_kept.Goals as goal
+
+pub is_kept_at-requires : goal.is_kept_at-requires
+is_kept_at-requires c = asked.below_nows (parts c.self.inside) c.self.invariant c.args.self.now c.self.view_is c.args.key.now c.in-Some.place
+    (ap (λ (ks : List (Option Key)). place_of ks c.args.key.now) (sym c.deref.ensures.value)
+    ∙ sym c.place_of.ensures ∙ c.in-Some.is)
+
+pub returns-in-Some : goal.returns-in-Some
+returns-in-Some c = c.is_kept_at.ensures ∙ asked.kept_is (parts c.self.inside) c.self.invariant c.args.self.now c.self.view_is c.args.key.now c.in-Some.place
+    (ap (λ (ks : List (Option Key)). place_of ks c.args.key.now) (sym c.deref.ensures.value)
+    ∙ sym c.place_of.ensures ∙ c.in-Some.is)
+
+pub returns-in-None : goal.returns-in-None
+returns-in-None c = sym (asked.kept_nowhere (parts c.self.inside) c.self.invariant c.args.self.now c.self.view_is c.args.key.now
+    (ap (λ (ks : List (Option Key)). place_of ks c.args.key.now) (sym c.deref.ensures.value)
+    ∙ sym c.place_of.ensures ∙ c.in-None.is))
