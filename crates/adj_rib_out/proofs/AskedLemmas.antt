@@ -8,13 +8,17 @@ use Rattle.linked_pending.specs.Links.{link}
 use Rattle.route_values.specs.declared.key.Key.{Key}
 use Rattle.slot_batches.specs.Left.{value_left}
 use Rattle.slot_batches.specs.declared.slots.Item.{Item as SlotItem}
-use Rattle.adj_rib_out.specs.State.{State}
-use Rattle.adj_rib_out.specs.Nodes.{is_kept}
+use Rattle.adj_rib_out.specs.State.{State, route_of}
+use Rattle.adj_rib_out.specs.Nodes.{is_kept, is_node}
 use Rattle.adj_rib_out.specs.Places.{place_of}
 use Rattle.adj_rib_out.specs.Kept.{Parts, Values, IsTable, IsNumber, AreLeft, seen, attrs_under, parity, has_value, keeps}
+use Rattle.adj_rib_out.specs.Kept.{chosen_at, route_in, written_under}
+use Rattle.adj_rib_out.specs.declared.chosen.Chosen.{Chosen}
+use Rattle.adj_rib_out.proofs.PartLemmas.{route_is}
+use Rattle.adj_rib_out.proofs.SetLemmas.{some_mapped}
 use Rattle.adj_rib_out.proofs.RowLemmas.{found, within, none_some, some_is}
 use Rattle.adj_rib_out.proofs.NumberLemmas.{attrs_of_none, attrs_of_value}
-use Rattle.adj_rib_out.proofs.SeenNodeLemmas.{kept_seen, not_kept, said_by}
+use Rattle.adj_rib_out.proofs.SeenNodeLemmas.{kept_seen, not_kept, no_node, said_by}
 
 some_value : (values : Values) (parity number : ℕ) → IsNumber values parity number
     → is_some (attrs_under values number) ≡ nat_lt 1 number
@@ -56,3 +60,22 @@ module _ (p : Parts) (table : IsTable p) (state : State) (view : seen p ≡ stat
   pub below_nows : (place : ℕ) → place_of p.keys key ≡ Some place → place < length p.slots.nows
   below_nows place here = subst (λ n. place < n) (sym table.nows_length) (within p.keys key place
       (found p.keys key place here))
+
+some_route : (p : Parts) (table : IsTable p) (place : ℕ) (o : Option Chosen) → chosen_at p.routes place ≡ o
+    → is_some (route_in p.values o) ≡ is_some o
+some_route p table place None is = refl
+some_route p table place (Some chosen) is =
+    some_mapped (λ v. route_of p.values.side v.0 chosen.owner) (written_under p.values chosen.value)
+    ∙ table.chosen place chosen is
+
+module _ (p : Parts) (table : IsTable p) (state : State) (view : seen p ≡ state) (key : Key) where
+  pub node_is : (place : ℕ) → place_of p.keys key ≡ Some place → (chosen kept : Bool)
+      → chosen ≡ is_some (chosen_at p.routes place) → kept ≡ keeps p.slots place
+      → (chosen || kept) ≡ is_node state key
+  node_is place here chosen kept is_chosen kept_here = ap₂ (λ (a b : Bool). a || b)
+      (is_chosen ∙ sym (some_route p table place (chosen_at p.routes place) refl)
+      ∙ sym (ap is_some (route_is p state view key place here)))
+      (kept_here ∙ kept_is p table state view key place here)
+
+  pub node_nowhere : place_of p.keys key ≡ None → is_node state key ≡ false
+  node_nowhere none = sym (ap (λ (s : State). is_node s key) view) ∙ no_node p table key none

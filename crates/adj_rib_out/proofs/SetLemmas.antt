@@ -159,7 +159,7 @@ mapped : {X Y Z : Type 0} (f : X → Y) (g : Y → Z) (o : Option X) → option_
 mapped f g None = refl
 mapped f g (Some x) = refl
 
-some_mapped : {X Y : Type 0} (f : X → Y) (o : Option X) → is_some (option_map f o) ≡ is_some o
+pub some_mapped : {X Y : Type 0} (f : X → Y) (o : Option X) → is_some (option_map f o) ≡ is_some o
 some_mapped f None = refl
 some_mapped f (Some x) = refl
 

@@ -1,8 +1,8 @@
 //! What slots show.
 
-ghost use Rattle.std.specs.Prelude.{◌≡◌, ◌<◌, ◌+◌, ◌*◌, ◌^◌, ◌||◌, ◌&&◌, not, length, slice_set};
+ghost use Rattle.std.specs.Prelude.{◌≡◌, ◌<◌, ◌+◌, ◌*◌, ◌^◌, ◌||◌, ◌&&◌, is_some, not, length, slice_set};
 ghost use Rattle.adj_rib_out.specs.State.{is_visible};
-ghost use Rattle.adj_rib_out.specs.Kept.{has_value, keeps, number_of, owes_end, parity_of, shown_number};
+ghost use Rattle.adj_rib_out.specs.Kept.{chosen_at, has_value, keeps, number_of, owes_end, parity_of, shown_number};
 
 use crate::chosen::Chosen;
 use crate::values::Values;
@@ -105,5 +105,15 @@ fn has_value(left: Option<usize>) -> bool
     match left {
         Some(number) => 1 < number,
         None => false,
+    }
+}
+
+/// Whether a place has a value.
+pub fn is_chosen(routes: &[Option<Chosen>], place: usize) -> bool
+    ensures { result ≡ is_some (chosen_at routes.now place) }
+{
+    match routes.get(place) {
+        Some(Some(_)) => true,
+        _ => false,
     }
 }

@@ -13,7 +13,9 @@ ghost use Rattle.adj_rib_out.specs.Told.{route_told, next_told, items_left};
 use crate::chosen::Chosen;
 use crate::entry::{Entry, Owner};
 use crate::keys::{count, key_at, place_of};
-use crate::showing::{choose, either, is_kept_at, owes_marker, parity_of, shown_number, unless};
+use crate::showing::{
+    choose, either, is_chosen, is_kept_at, owes_marker, parity_of, shown_number, unless,
+};
 use crate::values::{Values, pair};
 use batch_cutter::Due;
 use route_values::{Attrs, Caps, Family, Key, NoMemory};
@@ -189,6 +191,19 @@ impl Table {
     {
         match place_of(&self.keys, key) {
             Some(place) => is_kept_at(&self.slots, place),
+            None => false,
+        }
+    }
+
+    /// Whether the key is a node.
+    pub fn is_node(&self, key: &Key) -> bool
+        ensures { result ≡ is_node self.now key.now }
+    {
+        match place_of(&self.keys, key) {
+            Some(place) => either(
+                is_chosen(&self.routes, place),
+                is_kept_at(&self.slots, place),
+            ),
             None => false,
         }
     }
