@@ -1,8 +1,7 @@
 -- Whether a key is kept, by the numbers of its slot.
-use Rattle.std.proofs.Common.{◌≡◌, ◌==◌, ℕ, ◌<◌, ◌≤◌, Bool, true, false, List, [], ◌∷◌, cond, Option, Some, None, arith}
+use Rattle.std.proofs.Common.{◌≡◌, ◌==◌, ℕ, ◌<◌, Bool, true, false, List, [], ◌∷◌, cond, Option, Some, None, arith}
 use Rattle.std.proofs.Common.{length, refl, sym, ap, ap₂, subst, ◌∙◌}
 use Rattle.std.specs.Prelude.{is_some, nat_lt, ◌||◌}
-use Rattle.std.proofs.lemmas.Bool.{false≢true, eqb-true}
 use Rattle.std.proofs.lemmas.Grind.{common_steps}
 use Rattle.linked_pending.specs.Links.{link}
 use Rattle.route_values.specs.declared.key.Key.{Key}
