@@ -15,3 +15,4 @@ pub mod GroupLemmas
 pub mod FrozenLemmas
 pub mod RestartLemmas
 pub mod AskedLemmas
+pub mod DueLemmas

@@ -23,6 +23,7 @@ use Rattle.slot_batches.specs.declared.slots.Item.{Item as SlotItem}
 use Rattle.adj_rib_out.specs.declared.chosen.Chosen.{Chosen}
 use Rattle.adj_rib_out.specs.declared.entry.Owner.{Owner}
 use Rattle.adj_rib_out.specs.State.{State, Session, Route, Item, is_visible, route_of}
+use Rattle.adj_rib_out.specs.Nodes.{Next, Says, Nothing}
 use Rattle.adj_rib_out.specs.Places.{key_at, rows_from, StandOnce}
 
 -- values as they are written, each with the number of its wire attributes, and wire attributes
@@ -139,6 +140,11 @@ items_seen keys values (item ∷ items) = elim (key_at keys item.slot) [
   | Some key ↦ item_for values item key ∷ items_seen keys values items
   | None ↦ items_seen keys values items
 ]
+
+-- what is due where a slot is left: what is said of its key, and nothing where no key stands
+abbrev pub due_by : ℕ → Option Key → Option WireAttrs → Next
+due_by number None attrs = Nothing
+due_by number (Some key) attrs = Says (record { key = key; says = says_by number attrs })
 
 -- whether a batch that begins owes the family's marker
 abbrev pub owes_end : Option Caps → Bool → Family → Bool

@@ -9,6 +9,7 @@ mod chosen;
 mod entry;
 mod keys;
 mod rib;
+mod saying;
 mod showing;
 mod table;
 mod values;

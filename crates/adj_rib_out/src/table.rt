@@ -9,15 +9,18 @@ ghost use Rattle.adj_rib_out.specs.Calls.{Readies, ReadiesSome, Trims, Sets, Res
 ghost use Rattle.adj_rib_out.specs.Calls.{is_open, Freezes, Passes};
 ghost use Rattle.adj_rib_out.specs.Nodes.{pair_at, next_of, nodes, is_node, is_kept, AreApart};
 ghost use Rattle.adj_rib_out.specs.Told.{route_told, next_told, items_left};
+ghost use Rattle.batch_cutter.specs.Grouped.{AreGrouped};
+ghost use Rattle.batch_cutter.specs.Items.{AreNumbered};
 
 use crate::chosen::Chosen;
 use crate::entry::{Entry, Owner};
 use crate::keys::{count, key_at, place_of};
+use crate::saying::{key_due, marker_due};
 use crate::showing::{
     choose, either, is_chosen, is_kept_at, owes_marker, parity_of, shown_number, unless,
 };
 use crate::values::{Values, pair};
-use batch_cutter::Due;
+use batch_cutter::{Batch, Due};
 use route_values::{Attrs, Caps, Family, Key, NoMemory};
 use slot_batches::Slots;
 use std::marker::Model;
@@ -135,6 +138,13 @@ impl Table {
         self.ipv6_marker = ipv6_marker;
     }
 
+    /// What the open batch says next; Empty exactly where none is open.
+    pub fn due(&self) -> Due<'_>
+        ensures { next_told result ≡ next_of self.now.left self.now.markers }
+    {
+        self.told()
+    }
+
     /// Moves past what is due: it was sent. Where no batch is open nothing changes.
     pub fn sent(&mut self)
         ensures passes { Passes self.old self.new }
@@ -206,5 +216,35 @@ impl Table {
             ),
             None => false,
         }
+    }
+
+    // What is due. What is left is one batch.
+    fn told(&self) -> Due<'_>
+        ensures next { next_told result ≡ next_of self.now.left self.now.markers }
+        ensures numbered { AreNumbered (items_left self.now) }
+        ensures grouped { AreGrouped (items_left self.now) }
+    {
+        match self.slots.front() {
+            Some(item) => key_due(
+                item.value,
+                key_at(&self.keys, item.slot),
+                self.values.attrs(item.value),
+            ),
+            None => marker_due(self.ipv4_marker, self.ipv6_marker),
+        }
+    }
+}
+
+impl Batch for Table {
+    ghost left = { λ table. items_left table };
+
+    ghost passes = { λ old item new. Passes old new };
+
+    fn due(&self) -> Due<'_> {
+        self.told()
+    }
+
+    fn sent(&mut self) {
+        self.sent()
     }
 }

@@ -2,7 +2,8 @@
 
 ghost use Rattle.std.specs.Prelude.{◌≡◌, ◌≤◌, length, option_copied, ◌<◌, ◌^◌, IfSome, Some, None};
 ghost use Rattle.std.specs.Option.{option_map};
-ghost use Rattle.adj_rib_out.specs.Kept.{AreKept, written_under, wire_under, route_in, chosen_of, chosen_at};
+ghost use Rattle.adj_rib_out.specs.Kept.{AreKept, written_under, wire_under, attrs_under, route_in};
+ghost use Rattle.adj_rib_out.specs.Kept.{chosen_of, chosen_at};
 ghost use Rattle.adj_rib_out.specs.Told.{route_told, pair_if};
 
 use crate::chosen::Chosen;
@@ -78,6 +79,17 @@ impl Values {
         match self.wires.get(number) {
             Some(Some(attrs)) => Some(attrs),
             _ => None,
+        }
+    }
+
+    /// The wire attributes that the number of a slot stands for.
+    pub fn attrs(&self, number: usize) -> Option<&WireAttrs>
+        ensures { option_copied result ≡ attrs_under self.now number }
+    {
+        if 1 < number {
+            self.wire(number / 2 - 1)
+        } else {
+            None
         }
     }
 

@@ -1,0 +1,35 @@
+use Rattle.std.proofs.Common.{Option, List, ap, ap₂, sym, ◌∙◌}
+use Rattle.route_values.specs.declared.key.Key.{Key}
+use Rattle.adj_rib_out.specs.Places.{key_at}
+use Rattle.adj_rib_out.specs.Kept.{due_by}
+use Rattle.adj_rib_out.proofs.InsideLemmas.{parts}
+use Rattle.adj_rib_out.proofs.DueLemmas as due
+use Rattle.adj_rib_out.proofs.table.Table.told.Goals as goal
+
+pub returns-in-Some-clause-next : goal.returns-in-Some-clause-next
+returns-in-Some-clause-next c = c.key_due.ensures
+    ∙ ap₂ (due_by c.in-Some.item.value) (c.key_at.ensures
+    ∙ ap (λ (ks : List (Option Key)). key_at ks c.in-Some.item.slot) c.deref.ensures.value) c.attrs.ensures
+    ∙ due.key_next (parts c.self.inside) c.self.invariant c.args.self.now c.self.view_is c.in-Some.item
+    (sym c.front.ensures.first ∙ c.in-Some.is)
+
+pub returns-in-Some-clause-numbered : goal.returns-in-Some-clause-numbered
+returns-in-Some-clause-numbered c =
+    due.left_numbered (parts c.self.inside) c.self.invariant c.args.self.now c.self.view_is
+
+pub returns-in-Some-clause-grouped : goal.returns-in-Some-clause-grouped
+returns-in-Some-clause-grouped c =
+    due.left_grouped (parts c.self.inside) c.self.invariant c.args.self.now c.self.view_is
+
+pub returns-in-None-clause-next : goal.returns-in-None-clause-next
+returns-in-None-clause-next c = c.marker_due.ensures
+    ∙ due.marker_next (parts c.self.inside) c.self.invariant c.args.self.now c.self.view_is
+    (sym c.front.ensures.first ∙ c.in-None.is)
+
+pub returns-in-None-clause-numbered : goal.returns-in-None-clause-numbered
+returns-in-None-clause-numbered c =
+    due.left_numbered (parts c.self.inside) c.self.invariant c.args.self.now c.self.view_is
+
+pub returns-in-None-clause-grouped : goal.returns-in-None-clause-grouped
+returns-in-None-clause-grouped c =
+    due.left_grouped (parts c.self.inside) c.self.invariant c.args.self.now c.self.view_is
