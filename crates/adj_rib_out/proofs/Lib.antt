@@ -15,4 +15,6 @@ pub mod GroupLemmas
 pub mod FrozenLemmas
 pub mod RestartLemmas
 pub mod AskedLemmas
+pub mod ShownLemmas
 pub mod DueLemmas
+pub mod PlaceLemmas

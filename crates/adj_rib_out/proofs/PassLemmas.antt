@@ -1,7 +1,7 @@
 -- The first item of the open batch is passed, or its first marker.
-use Rattle.std.proofs.Common.{◌≡◌, ◌==◌, ℕ, ◌<◌, ◌≤◌, Bool, true, false, List, [], ◌∷◌, cond}
+use Rattle.std.proofs.Common.{◌≡◌, ◌≢◌, ◌==◌, ℕ, ◌+◌, ◌<◌, ◌≤◌, Bool, true, false, List, [], ◌∷◌, cond}
 use Rattle.std.proofs.Common.{Option, Some, None, length, refl, sym, ap, ap₂, subst, ◌∙◌, arith, drop}
-use Rattle.std.specs.Prelude.{MatchOption, slice_get, is_some, slice_set, ◌||◌}
+use Rattle.std.specs.Prelude.{MatchOption, slice_get, is_some, not, slice_set, ◌||◌, ◌&&◌}
 use Rattle.std.proofs.lemmas.Bool.{false≢true, ne_eqb, eqb-true}
 use Rattle.std.proofs.lemmas.List.{length-set}
 use Rattle.linked_pending.specs.Links.{link}
@@ -23,7 +23,7 @@ use Rattle.adj_rib_out.specs.Kept.{item_for, says_by, attrs_under, markers_of, p
 use Rattle.adj_rib_out.proofs.RowLemmas.{stands, within, changed, some_is, none_some}
 use Rattle.adj_rib_out.proofs.PartLemmas.{told_seen, left_slot}
 use Rattle.adj_rib_out.proofs.KeepLemmas.{set_at, ready_kept, routes_kept, told_kept}
-use Rattle.adj_rib_out.proofs.NodeLemmas.{count_fewer}
+use Rattle.adj_rib_out.proofs.NodeLemmas.{count_changed, count_fewer, one}
 use Rattle.adj_rib_out.proofs.SeenNodeLemmas.{node_by, said_by, nodes_seen}
 
 pub cons_nil : {X : Type 0} {x : X} {xs : List X} → x ∷ xs ≡ [] → ⊥
@@ -53,6 +53,13 @@ or_true false b is = is
 unsaid : (values : Values) (o : Option ℕ) → is_some o ≡ false → said_by values o ≡ false
 unsaid values None is = refl
 unsaid values (Some n) is = absurd (false≢true (sym is))
+
+one_went : (before after : Bool) → (after ≡ true → before ≡ true)
+    → one before ≡ one after + cond (before && not after) 1 0
+one_went true true still = omega arith
+one_went true false still = omega arith
+one_went false true still = absurd (false≢true (still refl))
+one_went false false still = omega arith
 
 module _ (p : Parts) (table : IsTable p) (item : SlotItem) (rest : List SlotItem) (is : p.slots.left ≡ item ∷ rest) where
   left_is : AreLeft p.keys p.values (item ∷ rest)
@@ -188,6 +195,35 @@ module _ (p : Parts) (table : IsTable p) (item : SlotItem) (rest : List SlotItem
       (said_by p.values (value_left p.slots.left i)) (was_told i) (was_said i)) in
       let old = nodes_seen p table in
       let new = nodes_seen passed passed_kept in
+      omega arith
+
+  elsewhere_same : (i : ℕ) → i ≢ item.slot → node_by passed i ≡ node_by p i
+  elsewhere_same i other = let differs = ne_eqb i item.slot other in
+      ap₂ (λ (a b : Bool). is_some (route_by p i) || (a || b))
+      (ap (λ (n : ℕ). is_some (attrs_under p.values n)) (sent_is i
+      ∙ ap (λ (t : Bool). cond t item.value (link p.slots.sents i)) differs))
+      (ap (λ (l : List SlotItem). said_by p.values (value_left l i)) rest_is
+      ∙ sym (ap (λ (l : List SlotItem). said_by p.values (value_left l i)) is
+      ∙ ap (λ (t : Bool). said_by p.values (cond t (Some item.value) (value_left rest i))) differs))
+
+  still_node : (before after : Bool) → before ≡ node_by p item.slot → after ≡ node_by passed item.slot
+      → after ≡ true → before ≡ true
+  still_node before after before_is after_is stands_after = before_is ∙ was_node (is_some (route_by p item.slot))
+      (is_some (told_by passed item.slot)) (said_by p.values (value_left passed.slots.left item.slot))
+      (is_some (told_by p item.slot)) (said_by p.values (value_left p.slots.left item.slot)) (was_told item.slot)
+      (was_said item.slot) (sym after_is ∙ stands_after)
+
+  -- the nodes are one fewer just where the item's key is none any more
+  pub passed_counts : (before after : Bool) → before ≡ node_by p item.slot → after ≡ node_by passed item.slot
+      → nodes (seen passed) + cond (before && not after) 1 0 ≡ nodes (seen p)
+  passed_counts before after before_is after_is =
+      let moves = count_changed (node_by p) (node_by passed) p.keys 0 item.slot item.slot key left_is.0.stands
+          (omega arith) elsewhere_same in
+      let old = nodes_seen p table in
+      let new = nodes_seen passed passed_kept in
+      let was = ap one before_is in
+      let now = ap one after_is in
+      let went = one_went before after (still_node before after before_is after_is) in
       omega arith
 
 -- the slots behind a pass

@@ -5,3 +5,4 @@ pub mod Calls
 pub mod Told
 pub mod Places
 pub mod Kept
+pub mod Shown

@@ -8,6 +8,7 @@
 mod chosen;
 mod entry;
 mod keys;
+mod restart;
 mod rib;
 mod saying;
 mod showing;

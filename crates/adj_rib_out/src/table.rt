@@ -15,6 +15,7 @@ ghost use Rattle.batch_cutter.specs.Items.{AreNumbered};
 use crate::chosen::Chosen;
 use crate::entry::{Entry, Owner};
 use crate::keys::{count, key_at, place_of};
+use crate::restart::show_all;
 use crate::saying::{key_due, marker_due};
 use crate::showing::{
     choose, either, is_chosen, is_kept_at, owes_marker, parity_of, shown_number, unless,
@@ -90,6 +91,27 @@ impl Table {
         };
         choose(&mut self.routes, place, None);
         self.slots.show(place, parity_of(key.family()));
+    }
+
+    /// A session stands, on which nothing was sent.
+    pub fn up(&mut self, caps: Caps)
+        ensures restarts { Restarts self.old self.new (Some caps) }
+        ensures nodes { nodes self.new ≤ nodes self.old }
+    {
+        self.slots.reset();
+        show_all(
+            &self.keys,
+            &self.routes,
+            &self.values,
+            caps,
+            &mut self.slots,
+        );
+        self.caps = Some(caps);
+        self.begun = false;
+        self.ipv4_stale = false;
+        self.ipv6_stale = false;
+        self.ipv4_marker = false;
+        self.ipv6_marker = false;
     }
 
     /// No session stands.
