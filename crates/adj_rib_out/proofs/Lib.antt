@@ -18,3 +18,4 @@ pub mod AskedLemmas
 pub mod ShownLemmas
 pub mod DueLemmas
 pub mod PlaceLemmas
+pub mod CountLemmas

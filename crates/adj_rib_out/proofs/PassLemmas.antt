@@ -218,7 +218,7 @@ module _ (p : Parts) (table : IsTable p) (item : SlotItem) (rest : List SlotItem
       → nodes (seen passed) + cond (before && not after) 1 0 ≡ nodes (seen p)
   passed_counts before after before_is after_is =
       let moves = count_changed (node_by p) (node_by passed) p.keys 0 item.slot item.slot key left_is.0.stands
-          (omega arith) elsewhere_same in
+      (omega arith) elsewhere_same in
       let old = nodes_seen p table in
       let new = nodes_seen passed passed_kept in
       let was = ap one before_is in

@@ -10,7 +10,7 @@ use Rattle.route_values.specs.declared.key.Key.{Key}
 use Rattle.slot_batches.specs.Left.{value_left}
 use Rattle.slot_batches.specs.Slots.{Slots}
 use Rattle.slot_batches.specs.declared.slots.Item.{Item as SlotItem}
-use Rattle.adj_rib_out.specs.State.{State, Route, is_ready}
+use Rattle.adj_rib_out.specs.State.{State, Row, Route, is_ready}
 use Rattle.adj_rib_out.specs.Nodes.{is_node, is_node_row, nodes}
 use Rattle.adj_rib_out.specs.Places.{key_at, place_of, rows_from, row_of}
 use Rattle.adj_rib_out.specs.Kept.{Parts, Values, IsTable, AreLeft, seen, route_by, told_by, chosen_at, keeps, has_value}
@@ -25,7 +25,7 @@ use Rattle.adj_rib_out.proofs.PassLemmas.{passed, passed_counts, HasPassed, made
 -- ---- what stands at a place
 
 module _ (route : ℕ → Option Route) (told : ℕ → Option WireAttrs) where
-  abbrev row_by : ℕ → Key → _
+  abbrev row_by : ℕ → Key → Row
   row_by place key = row_of key (route place) (told place)
 
   row_behind : (keys : List (Option Key)) (first place : ℕ)
@@ -97,6 +97,17 @@ module _ (p : Parts) (table : IsTable p) where
 
 -- ---- what is passed
 
+first_within : (keys : List (Option Key)) (values : Values) (left : List SlotItem) → AreLeft keys values left
+    → (item : SlotItem) → slice_get left 0 ≡ Some item → item.slot < length keys
+first_within keys values [] left item is = absurd (none_some is)
+first_within keys values (first ∷ rest) left item is = subst (λ (i : SlotItem). i.slot < length keys) (some_is is)
+    (within keys left.0.key first.slot left.0.stands)
+
+pub within_old : (p : Parts) → IsTable p → (item : SlotItem) → slice_get p.slots.left 0 ≡ Some item
+    → item.slot < length p.slots.nows
+within_old p table item here = subst (λ n. item.slot < n) (sym table.nows_length)
+    (first_within p.keys p.values p.slots.left table.left item here)
+
 module _ (p : Parts) (table : IsTable p) (state : State) (view : seen p ≡ state) (slots : Slots)
     (pass : HasPassed p.slots slots) (item : SlotItem) (here : slice_get p.slots.left 0 ≡ Some item) where
   abbrev after : Parts
@@ -105,17 +116,9 @@ module _ (p : Parts) (table : IsTable p) (state : State) (view : seen p ≡ stat
   after_kept : IsTable after
   after_kept = made_kept p table state view slots pass (ap is_some here)
 
-  first_within : (left : List SlotItem) → AreLeft p.keys p.values left → slice_get left 0 ≡ Some item
-      → item.slot < length p.keys
-  first_within [] left is = absurd (none_some is)
-  first_within (first ∷ rest) left is = subst (λ (i : SlotItem). i.slot < length p.keys) (some_is is)
-      (within p.keys left.0.key first.slot left.0.stands)
-
-  pub within_old : item.slot < length p.slots.nows
-  within_old = subst (λ n. item.slot < n) (sym table.nows_length) (first_within p.slots.left table.left here)
-
   pub within_new : item.slot < length slots.nows
-  within_new = subst (λ n. item.slot < n) (sym after_kept.nows_length) (first_within p.slots.left table.left here)
+  within_new = subst (λ n. item.slot < n) (sym after_kept.nows_length)
+      (first_within p.keys p.values p.slots.left table.left item here)
 
   module _ (first : SlotItem) (rest : List SlotItem) (is : p.slots.left ≡ first ∷ rest) where
     first_is : item ≡ first
@@ -158,7 +161,7 @@ module _ (p : Parts) (table : IsTable p) (state : State) (view : seen p ≡ stat
   pub unmarked_counts : nodes (seen (unmarked p table state view none ipv4 ipv6 fewer)) + cond false 1 0 ≡ nodes state
   unmarked_counts =
       let same = nodes_seen (unmarked p table state view none ipv4 ipv6 fewer)
-          (unmarked_kept p table state view none ipv4 ipv6 fewer) ∙ sym (nodes_seen p table) ∙ ap nodes view in
+      (unmarked_kept p table state view none ipv4 ipv6 fewer) ∙ sym (nodes_seen p table) ∙ ap nodes view in
       omega arith
 
 -- the marker that stands first is gone

@@ -6,6 +6,7 @@
 #![tactic(auto)]
 
 mod chosen;
+mod counted;
 mod entry;
 mod keys;
 mod restart;
@@ -16,6 +17,6 @@ mod table;
 mod values;
 
 pub use batch_cutter::Due;
+pub use counted::Counted;
 pub use entry::{Entry, Owner};
 pub use rib::Rib;
-pub use table::Table;

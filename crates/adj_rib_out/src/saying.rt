@@ -9,11 +9,7 @@ use batch_cutter::Due;
 use route_values::{Family, Key, WireAttrs};
 
 /// What is due where a slot is left: its key goes, or has these attributes under the slot's number.
-pub fn key_due<'a>(
-    number: usize,
-    key: Option<&'a Key>,
-    attrs: Option<&'a WireAttrs>,
-) -> Due<'a>
+pub fn key_due<'a>(number: usize, key: Option<&'a Key>, attrs: Option<&'a WireAttrs>) -> Due<'a>
     ensures { next_told result
         ≡ due_by number (option_copied key.entry) (option_copied attrs.entry) }
 {

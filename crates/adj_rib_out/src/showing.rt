@@ -84,6 +84,13 @@ pub fn either(one: bool, other: bool) -> bool
     one || other
 }
 
+/// Whether both hold.
+pub fn both(one: bool, other: bool) -> bool
+    ensures { result ≡ (one && other) }
+{
+    one && other
+}
+
 /// Whether one holds and the other doesn't.
 pub fn unless(one: bool, other: bool) -> bool
     ensures { result ≡ (one && not other) }
@@ -116,4 +123,12 @@ pub fn is_chosen(routes: &[Option<Chosen>], place: usize) -> bool
         Some(Some(_)) => true,
         _ => false,
     }
+}
+
+/// Whether a place has a value, or a value of its slot was sent or is left to be.
+pub fn stands(routes: &[Option<Chosen>], slots: &Slots, place: usize) -> bool
+    requires { place < length slots.now.nows }
+    ensures { result ≡ (is_some (chosen_at routes.now place) || keeps slots.now place) }
+{
+    either(is_chosen(routes, place), is_kept_at(slots, place))
 }

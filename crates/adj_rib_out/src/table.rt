@@ -1,13 +1,12 @@
 //! The table.
 
-ghost use Rattle.std.specs.Prelude.{◌≡◌, ◌≤◌, ◌+◌, ◌&&◌, ℕ, false, not, length, if◌then◌else◌};
-ghost use Rattle.std.specs.Prelude.{IfOk, OnOk, OnErr, Some, None, IsSome, IsTrue};
+ghost use Rattle.std.specs.Prelude.{◌≡◌, ◌≤◌, ◌<◌, ◌+◌, ◌&&◌, false, not, length, if◌then◌else◌};
+ghost use Rattle.std.specs.Prelude.{Some, None, IsSome, IsTrue, slice_index_or};
 ghost use Rattle.std.specs.Option.{option_map};
 ghost use Rattle.route_values.specs.declared.key.Key.{Key as ValueOfKey};
 ghost use Rattle.adj_rib_out.specs.State.{is_ready, route_at, value_at, route_of};
-ghost use Rattle.adj_rib_out.specs.Calls.{Readies, ReadiesSome, Trims, Sets, Restarts, Refreshes};
-ghost use Rattle.adj_rib_out.specs.Calls.{is_open, Freezes, Passes};
-ghost use Rattle.adj_rib_out.specs.Nodes.{pair_at, next_of, nodes, is_node, is_kept, AreApart};
+ghost use Rattle.adj_rib_out.specs.Calls.{Sets, Restarts, Refreshes, is_open, Freezes, Passes};
+ghost use Rattle.adj_rib_out.specs.Nodes.{pair_at, next_of, nodes, is_node, is_node_row, is_kept, AreApart};
 ghost use Rattle.adj_rib_out.specs.Told.{route_told, next_told, items_left};
 ghost use Rattle.batch_cutter.specs.Grouped.{AreGrouped};
 ghost use Rattle.batch_cutter.specs.Items.{AreNumbered};
@@ -18,11 +17,12 @@ use crate::keys::{count, key_at, place_of};
 use crate::restart::show_all;
 use crate::saying::{key_due, marker_due};
 use crate::showing::{
-    choose, either, is_chosen, is_kept_at, owes_marker, parity_of, shown_number, unless,
+    both, choose, either, is_chosen, is_kept_at, owes_marker, parity_of, shown_number, stands,
+    unless,
 };
 use crate::values::{Values, pair};
-use batch_cutter::{Batch, Due};
-use route_values::{Attrs, Caps, Family, Key, NoMemory};
+use batch_cutter::Due;
+use route_values::{Caps, Family, Key};
 use slot_batches::Slots;
 use std::marker::Model;
 
@@ -160,25 +160,35 @@ impl Table {
         self.ipv6_marker = ipv6_marker;
     }
 
-    /// What the open batch says next; Empty exactly where none is open.
+    /// What the open batch says next; Empty exactly where none is open. What is left is one batch.
     pub fn due(&self) -> Due<'_>
-        ensures { next_told result ≡ next_of self.now.left self.now.markers }
+        ensures next { next_told result ≡ next_of self.now.left self.now.markers }
+        ensures numbered { AreNumbered (items_left self.now) }
+        ensures grouped { AreGrouped (items_left self.now) }
     {
-        self.told()
+        match self.slots.front() {
+            Some(item) => key_due(
+                item.value,
+                key_at(&self.keys, item.slot),
+                self.values.attrs(item.value),
+            ),
+            None => marker_due(self.ipv4_marker, self.ipv6_marker),
+        }
     }
 
-    /// Moves past what is due: it was sent. Where no batch is open nothing changes.
-    pub fn sent(&mut self)
+    /// Moves past what is due: it was sent. Where no batch is open nothing changes. It answers whether a node is gone.
+    pub fn sent(&mut self) -> bool
         ensures passes { Passes self.old self.new }
-        ensures nodes { nodes self.new ≤ nodes self.old }
+        ensures nodes { nodes self.new + (if result then 1 else 0) ≡ nodes self.old }
     {
-        if self.slots.front().is_some() {
-            self.slots.pass();
-        } else if self.ipv4_marker {
+        let Some(item) = self.slots.front() else {
+            self.ipv6_marker = both(self.ipv4_marker, self.ipv6_marker);
             self.ipv4_marker = false;
-        } else {
-            self.ipv6_marker = false;
-        }
+            return false;
+        };
+        let was = stands(&self.routes, &self.slots, item.slot);
+        self.slots.pass();
+        unless(was, stands(&self.routes, &self.slots, item.slot))
     }
 
     /// What the session that stands carries, or None where none stands.
@@ -202,6 +212,8 @@ impl Table {
     pub fn places(&self) -> usize
         ensures places { result ≡ length self.now.rows }
         ensures apart { AreApart self.now.rows }
+        ensures ready { (key : ValueOfKey) → IsTrue (is_node self.now key)
+            → IsTrue (is_ready self.now key) }
     {
         count(&self.keys)
     }
@@ -240,33 +252,11 @@ impl Table {
         }
     }
 
-    // What is due. What is left is one batch.
-    fn told(&self) -> Due<'_>
-        ensures next { next_told result ≡ next_of self.now.left self.now.markers }
-        ensures numbered { AreNumbered (items_left self.now) }
-        ensures grouped { AreGrouped (items_left self.now) }
+    /// Whether the key at a place is a node; false where none stands.
+    pub fn is_node_at(&self, place: usize) -> bool
+        requires { place < length self.now.rows }
+        ensures { result ≡ is_node_row self.now (slice_index_or self.now.rows place None) }
     {
-        match self.slots.front() {
-            Some(item) => key_due(
-                item.value,
-                key_at(&self.keys, item.slot),
-                self.values.attrs(item.value),
-            ),
-            None => marker_due(self.ipv4_marker, self.ipv6_marker),
-        }
-    }
-}
-
-impl Batch for Table {
-    ghost left = { λ table. items_left table };
-
-    ghost passes = { λ old item new. Passes old new };
-
-    fn due(&self) -> Due<'_> {
-        self.told()
-    }
-
-    fn sent(&mut self) {
-        self.sent()
+        stands(&self.routes, &self.slots, place)
     }
 }

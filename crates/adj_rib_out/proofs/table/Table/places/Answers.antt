@@ -3,6 +3,7 @@ use Rattle.adj_rib_out.specs.State.{State}
 use Rattle.adj_rib_out.specs.Nodes.{AreApart}
 use Rattle.adj_rib_out.specs.Kept.{route_by, told_by}
 use Rattle.adj_rib_out.proofs.InsideLemmas.{parts}
+use Rattle.adj_rib_out.proofs.PlaceLemmas.{node_ready}
 use Rattle.adj_rib_out.proofs.RowLemmas.{length_of_rows, rows_apart}
 use Rattle.adj_rib_out.proofs.table.Table.places.Goals as goal
 
@@ -15,3 +16,7 @@ pub returns-clause-apart : goal.returns-clause-apart
 returns-clause-apart c = subst (λ (s : State). AreApart s.rows) c.self.view_is
     (rows_apart (route_by (parts c.self.inside)) (told_by (parts c.self.inside)) c.self.inside.keys.items
     c.self.invariant.once)
+
+pub returns-clause-ready : goal.returns-clause-ready
+returns-clause-ready c = λ key node. node_ready (parts c.self.inside) c.self.invariant c.args.self.now c.self.view_is
+    key node

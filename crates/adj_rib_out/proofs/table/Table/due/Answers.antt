@@ -4,7 +4,7 @@ use Rattle.adj_rib_out.specs.Places.{key_at}
 use Rattle.adj_rib_out.specs.Kept.{due_by}
 use Rattle.adj_rib_out.proofs.InsideLemmas.{parts}
 use Rattle.adj_rib_out.proofs.DueLemmas as due
-use Rattle.adj_rib_out.proofs.table.Table.told.Goals as goal
+use Rattle.adj_rib_out.proofs.table.Table.due.Goals as goal
 
 pub returns-in-Some-clause-next : goal.returns-in-Some-clause-next
 returns-in-Some-clause-next c = c.key_due.ensures
