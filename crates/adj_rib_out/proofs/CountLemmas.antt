@@ -32,14 +32,17 @@ module _ (count : ℕ) (old new : State) (gone lone : Bool) (counted : count ≡
 
 -- ---- a look at each place
 
+plus_zero : (n : ℕ) → n + 0 ≡ n
+plus_zero n = omega arith
+
 module _ (state : State) where
   more_by : (node : Bool) (place : ℕ) → place < length state.rows
       → is_node_row state (slice_index_or state.rows place None) ≡ node
       → count_by (is_node_row state) (take place state.rows) + cond (not node) 0 1
       ≡ count_by (is_node_row state) (take (place + 1) state.rows)
   more_by true place within is = sym (count_by_more_yes (is_node_row state) state.rows place None within is)
-  more_by false place within is =
-      let same = count_by_more_no (is_node_row state) state.rows place None within is in omega arith
+  more_by false place within is = plus_zero (count_by (is_node_row state) (take place state.rows))
+      ∙ sym (count_by_more_no (is_node_row state) state.rows place None within is)
 
   module _ (count place : ℕ) (node was : Bool) (within : place < length state.rows)
       (counted : count ≡ count_by (is_node_row state) (take place state.rows))

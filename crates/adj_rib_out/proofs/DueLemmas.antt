@@ -99,7 +99,8 @@ left_behind old new passed = behind old.left old.markers old new refl refl passe
 apart_by : (j k : Key) (a b : Option (ℕ × WireAttrs))
     → AreNumberedAlike (record { key = j; says = a }) (record { key = k; says = b })
     → ToldApart (item_by j a) (item_by k b)
-apart_by j k None b is = tt
+apart_by j k None None is = tt
+apart_by j k None (Some y) is = tt
 apart_by j k (Some x) None is = tt
 apart_by j k (Some x) (Some y) is =
     let kinds = is x.0 y.0 x.1 y.1 refl refl in (
@@ -128,7 +129,7 @@ ends_numbered (family ∷ families) = (ends_apart family families, ends_numbered
 
 module _ (values : Values) (kept : AreKept values) (keys : List (Option Key)) (once : StandOnce keys)
     (markers : List Family) where
-  abbrev batch_of : List SlotItem → List batch.Item
+  abbrev pub batch_of : List SlotItem → List batch.Item
   batch_of items = map batch_item (items_seen keys values items) ++ map batch.End markers
 
   all_apart : (key : Key) (number : ℕ) → IsNumber values (parity key) number → (items : List SlotItem)
@@ -152,7 +153,7 @@ module _ (values : Values) (kept : AreKept values) (keys : List (Option Key)) (o
 -- ---- groups
 
 -- the effects of an item
-abbrev said : Item → List Effect
+abbrev pub said : Item → List Effect
 said item = effects_of (batch_item item)
 
 alike_kind : (j k : Key) (a b : Option (ℕ × WireAttrs))
@@ -202,19 +203,19 @@ no_kind : (effects : List Effect) → IsOneKind effects [] → ⊥
 no_kind [] is = is
 no_kind (e ∷ es) is = is
 
-all_of : {P : batch.Item → Type 0} → ((x : batch.Item) → P x) → (xs : List batch.Item) → AllByRecursion P xs
-all_of each [] = tt
-all_of each (x ∷ xs) = (each x, all_of each xs)
+all_of : (P : batch.Item → Type 0) → ((x : batch.Item) → P x) → (xs : List batch.Item) → AllByRecursion P xs
+all_of P each [] = tt
+all_of P each (x ∷ xs) = (each x, all_of P each xs)
 
-ends_none : {P : batch.Item → Type 0} (effects : List Effect) (markers : List Family)
+ends_none : (P : batch.Item → Type 0) (effects : List Effect) (markers : List Family)
     → AllByRecursion (λ later. IsOneKind effects (effects_of later) → P later) (map batch.End markers)
-ends_none effects [] = tt
-ends_none effects (family ∷ families) = (λ is. absurd (no_kind effects is), ends_none effects families)
+ends_none P effects [] = tt
+ends_none P effects (family ∷ families) = (λ is. absurd (no_kind effects is), ends_none P effects families)
 
 ends_first : (effects : List Effect) (markers : List Family) → ComeFirst effects (map batch.End markers)
 ends_first effects [] = tt
 ends_first effects (family ∷ families) = (
-  ends_none {λ later. IsOneKind effects []} effects families,
+  ends_none (λ later. IsOneKind effects []) effects families,
   ends_first effects families,
 )
 
@@ -223,14 +224,14 @@ ends_grouped [] = tt
 ends_grouped (family ∷ families) = (ends_first [] families, ends_grouped families)
 
 module _ (markers : List Family) where
-  abbrev with_ends : List Item → List batch.Item
+  abbrev pub with_ends : List Item → List batch.Item
   with_ends items = map batch_item items ++ map batch.End markers
 
   none_of_kind : (item other : Item) (items : List Item) → HasNoOther item items
       → AllByRecursion (λ later. IsOneKind (said item) (effects_of later) → IsOneKind (said item) (said other))
       (with_ends items)
   none_of_kind item other [] none =
-      ends_none {λ later. IsOneKind (said item) (said other)} (said item) markers
+      ends_none (λ later. IsOneKind (said item) (said other)) (said item) markers
   none_of_kind item other (later ∷ items) none =
       (λ is. absurd (none.0 (kind_is item later is)), none_of_kind item other items none.1)
 
@@ -244,7 +245,7 @@ module _ (markers : List Family) where
   come_first item [] comes together = ends_first (said item) markers
   come_first item (next ∷ items) comes together = elim comes [
     | inl same ↦ (
-      all_of {λ later. IsOneKind (said item) (effects_of later) → IsOneKind (said item) (said next)}
+      all_of (λ later. IsOneKind (said item) (effects_of later) → IsOneKind (said item) (said next))
           (λ later is. is_kind item next same) (with_ends items),
       come_first item items (next_or_never item next same items together.0) together.1,
     )

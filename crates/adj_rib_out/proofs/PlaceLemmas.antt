@@ -72,9 +72,11 @@ module _ (p : Parts) (table : IsTable p) where
 
   pub stands_is : (state : State) → seen p ≡ state → (place : ℕ)
       → stands_by p place ≡ is_node_row state (slice_index_or state.rows place None)
-  stands_is state view place = stands_row place (key_at p.keys place) refl
+  stands_is state view place =
+      let from_first : place ≡ 0 + place = omega arith in
+      stands_row place (key_at p.keys place) refl
       ∙ ap (λ (n : ℕ). is_node_row (seen p) (option_map (row_by (route_by p) (told_by p) n) (key_at p.keys place)))
-      (omega arith)
+      from_first
       ∙ sym (ap (is_node_row (seen p)) (row_place (route_by p) (told_by p) p.keys 0 place))
       ∙ ap (λ (s : State). is_node_row s (slice_index_or s.rows place None)) view
 
@@ -110,7 +112,7 @@ within_old p table item here = subst (λ n. item.slot < n) (sym table.nows_lengt
 
 module _ (p : Parts) (table : IsTable p) (state : State) (view : seen p ≡ state) (slots : Slots)
     (pass : HasPassed p.slots slots) (item : SlotItem) (here : slice_get p.slots.left 0 ≡ Some item) where
-  abbrev after : Parts
+  abbrev pub after : Parts
   after = made p table state view slots pass (ap is_some here)
 
   after_kept : IsTable after
@@ -155,14 +157,16 @@ module _ (p : Parts) (table : IsTable p) (state : State) (view : seen p ≡ stat
   after_counts was now gone was_is now_is gone_is = ap (λ (t : Bool). nodes (seen after) + cond t 1 0) gone_is
       ∙ counts_by p.slots.left refl was now was_is now_is
 
+plus_zero : (n : ℕ) → n + 0 ≡ n
+plus_zero n = omega arith
+
 module _ (p : Parts) (table : IsTable p) (state : State) (view : seen p ≡ state)
     (none : is_some (slice_get p.slots.left 0) ≡ false) (ipv4 ipv6 : Bool)
     (fewer : markers_of ipv4 ipv6 ≡ drop 1 (markers_of p.ipv4_marker p.ipv6_marker)) where
   pub unmarked_counts : nodes (seen (unmarked p table state view none ipv4 ipv6 fewer)) + cond false 1 0 ≡ nodes state
-  unmarked_counts =
-      let same = nodes_seen (unmarked p table state view none ipv4 ipv6 fewer)
-      (unmarked_kept p table state view none ipv4 ipv6 fewer) ∙ sym (nodes_seen p table) ∙ ap nodes view in
-      omega arith
+  unmarked_counts = plus_zero (nodes (seen (unmarked p table state view none ipv4 ipv6 fewer)))
+      ∙ nodes_seen (unmarked p table state view none ipv4 ipv6 fewer)
+      (unmarked_kept p table state view none ipv4 ipv6 fewer) ∙ sym (nodes_seen p table) ∙ ap nodes view
 
 -- the marker that stands first is gone
 pub first_gone : (ipv4 ipv6 both : Bool) → both ≡ (ipv4 && ipv6)

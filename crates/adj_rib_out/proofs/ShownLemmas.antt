@@ -154,7 +154,8 @@ module _ (p : Parts) (table : IsTable p) (down : Slots) (fresh_slots : IsFresh p
     room = subst (λ n. 2 * length p.values.wires + 1 < n) (sym fresh_slots.room) table.room;
     same_length = fresh_slots.nows_length;
     parity_is = λ i key here. let small = parity_small key in
-        ap (λ n. n % 2) (fresh_slots.shown i key here) ∙ (omega arith);
+        let now : link down.nows i % 2 ≡ parity key % 2 = ap (λ n. n % 2) (fresh_slots.shown i key here) in
+        now ∙ (omega arith);
   })
 
   module _ (caps : Caps) (up : Slots) where

@@ -3,8 +3,8 @@ use Rattle.std.proofs.lemmas.Grind.{common_steps}
 use Rattle.adj_rib_out.proofs.ShownLemmas.{none_shown, next_shown, all_shown}
 use Rattle.adj_rib_out.proofs.restart.show_all.Goals as goal
 
-pub places-initially : goal.places-initially
-places-initially c = none_shown c.args.keys.now c.args.routes.now c.args.values.now c.args.caps c.args.slots.now c.requires
+pub places-init : goal.places-init
+places-init c = none_shown c.args.keys.now c.args.routes.now c.args.values.now c.args.caps c.args.slots.now c.requires
 
 pub places-preserved : goal.places-preserved
 places-preserved c =
