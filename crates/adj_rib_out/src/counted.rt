@@ -151,7 +151,7 @@ impl Counted {
         ensures ready { (key : ValueOfKey) → IsTrue (is_node self.now key)
             → IsTrue (is_ready self.now key) }
     {
-        let _places = self.table.places();
+        self.table.places();
         self.count
     }
 
