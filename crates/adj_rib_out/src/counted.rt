@@ -47,7 +47,8 @@ impl Counted {
     {
         let node = self.table.is_node(key);
         self.table.set(key, value, owner);
-        self.count = more(self.count, node, self.table.places());
+        let count = more(self.count, node, self.table.places());
+        self.count = count;
     }
 
     /// Takes the key's route out of the table. A key without one changes nothing.
@@ -59,7 +60,8 @@ impl Counted {
     {
         let lone = unless(self.table.is_node(key), self.table.is_kept(key));
         self.table.unset(key);
-        self.count = fewer(self.count, lone);
+        let count = fewer(self.count, lone);
+        self.count = count;
     }
 
     /// A session stands, on which nothing was sent.
@@ -110,7 +112,8 @@ impl Counted {
         ensures nodes { nodes self.new ≤ nodes self.old }
     {
         let gone = self.table.sent();
-        self.count = fewer(self.count, gone);
+        let count = fewer(self.count, gone);
+        self.count = count;
     }
 
     /// What the session that stands carries, or None where none stands.
@@ -181,7 +184,8 @@ impl Batch for Counted {
 
     fn sent(&mut self) {
         let gone = self.table.sent();
-        self.count = fewer(self.count, gone);
+        let count = fewer(self.count, gone);
+        self.count = count;
     }
 }
 
@@ -214,7 +218,8 @@ fn scan(table: &Table) -> usize
     let end = table.places();
     let mut count = 0;
     'rows: for place in 0..end {
-        count = more(count, !table.is_node_at(place), end);
+        let next = more(count, !table.is_node_at(place), end);
+        count = next;
     }
     count
 }

@@ -182,8 +182,9 @@ impl Table {
         ensures nodes { nodes self.new + (if result then 1 else 0) ≡ nodes self.old }
     {
         let Some(item) = self.slots.front() else {
-            self.ipv6_marker = both(self.ipv4_marker, self.ipv6_marker);
+            let ipv6 = both(self.ipv4_marker, self.ipv6_marker);
             self.ipv4_marker = false;
+            self.ipv6_marker = ipv6;
             return false;
         };
         let was = stands(&self.routes, &self.slots, item.slot);

@@ -9,8 +9,8 @@ is_node_at-requires c =
     let below : c.rows.place < c.places-end.result = grind (arith, common_steps) in
     subst (λ n. c.rows.place < n) c.places-end.ensures.places below
 
-pub more-requires : goal.more-requires
-more-requires c =
+pub more-next-requires : goal.more-next-requires
+more-next-requires c =
     let below : c.rows.place < c.places-end.result = grind (arith, common_steps) in
     count.next_fits c.args.table.now c.rows.count c.rows.place c.is_node_at.result (not c.is_node_at.result)
     (subst (λ n. c.rows.place < n) c.places-end.ensures.places below) c.rows.invariant.0 c.is_node_at.ensures refl
@@ -20,9 +20,9 @@ pub rows-preserved : goal.rows-preserved
 rows-preserved c =
     let below : c.rows.place < c.places-end.result = grind (arith, common_steps) in
     let within = subst (λ n. c.rows.place < n) c.places-end.ensures.places below in (
-      c.more.ensures ∙ count.next_counted c.args.table.now c.rows.count c.rows.place c.is_node_at.result
+      c.more-next.ensures ∙ count.next_counted c.args.table.now c.rows.count c.rows.place c.is_node_at.result
           (not c.is_node_at.result) within c.rows.invariant.0 c.is_node_at.ensures refl,
-      subst (λ n. n ≤ c.rows.place + 1) (sym c.more.ensures) (count.next_small c.args.table.now c.rows.count
+      subst (λ n. n ≤ c.rows.place + 1) (sym c.more-next.ensures) (count.next_small c.args.table.now c.rows.count
           c.rows.place c.is_node_at.result (not c.is_node_at.result) within c.rows.invariant.0 c.is_node_at.ensures
           refl c.rows.invariant.1),
     )

@@ -5,13 +5,13 @@ use Rattle.adj_rib_out.specs.Nodes.{nodes}
 use Rattle.adj_rib_out.proofs.CountLemmas as count
 use Rattle.adj_rib_out.proofs.counted.Counted.sent.Goals as goal
 
-pub fewer-requires : goal.fewer-requires
-fewer-requires c = count.can_shrink c.self.inside.count c.self.inside.table c.sent-gone.new.self c.sent-gone.result
+pub fewer-count-requires : goal.fewer-count-requires
+fewer-count-requires c = count.can_shrink c.self.inside.count c.self.inside.table c.sent-gone.new.self c.sent-gone.result
     c.sent-gone.result c.self.invariant refl c.sent-gone.ensures.nodes
 
 pub invariant_of-self : goal.invariant_of-self
 invariant_of-self c = count.shrunk_is c.self.inside.count c.self.inside.table c.sent-gone.new.self c.sent-gone.result
-    c.sent-gone.result c.self.invariant refl c.sent-gone.ensures.nodes c.fewer.result c.fewer.ensures
+    c.sent-gone.result c.self.invariant refl c.sent-gone.ensures.nodes c.fewer-count.result c.fewer-count.ensures
 
 pub returns-clause-passes : goal.returns-clause-passes
 returns-clause-passes c = subst (λ (s : State). Passes s c.sent-gone.new.self) c.self.view_is c.sent-gone.ensures.passes

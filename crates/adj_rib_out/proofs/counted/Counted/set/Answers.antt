@@ -14,13 +14,13 @@ pub set-requires-clause-value : goal.set-requires-clause-value
 set-requires-clause-value c = subst (λ (s : State). IsSome (value_at s c.args.value)) (sym c.self.view_is)
     c.requires.value
 
-pub more-requires : goal.more-requires
-more-requires c = count.has_room c.self.inside.count c.self.inside.table c.set.new.self c.is_node-node.result
+pub more-count-requires : goal.more-count-requires
+more-count-requires c = count.has_room c.self.inside.count c.self.inside.table c.set.new.self c.is_node-node.result
     (is_node c.self.inside.table c.args.key.now) c.self.invariant c.is_node-node.ensures c.set.ensures.nodes
     c.places.result c.places.ensures.places
 
 pub invariant_of-self : goal.invariant_of-self
-invariant_of-self c = c.more.ensures ∙ count.grown c.self.inside.count c.self.inside.table c.set.new.self
+invariant_of-self c = c.more-count.ensures ∙ count.grown c.self.inside.count c.self.inside.table c.set.new.self
     c.is_node-node.result (is_node c.self.inside.table c.args.key.now) c.self.invariant c.is_node-node.ensures
     c.set.ensures.nodes
 

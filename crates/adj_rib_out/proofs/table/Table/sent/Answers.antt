@@ -9,18 +9,18 @@ use Rattle.adj_rib_out.proofs.table.Table.sent.Goals as goal
 
 pub invariant_of-self-in_default : goal.invariant_of-self-in_default
 invariant_of-self-in_default c = pass.unmarked_kept (parts c.self.inside) c.self.invariant c.args.self.now c.self.view_is
-    (ap is_some (sym c.front.ensures.first ∙ c.in_default.is)) false c.both.result
-    (place.first_gone c.self.inside.ipv4_marker c.self.inside.ipv6_marker c.both.result c.both.ensures)
+    (ap is_some (sym c.front.ensures.first ∙ c.in_default.is)) false c.both-ipv6.result
+    (place.first_gone c.self.inside.ipv4_marker c.self.inside.ipv6_marker c.both-ipv6.result c.both-ipv6.ensures)
 
 pub returns-in_default-clause-passes : goal.returns-in_default-clause-passes
 returns-in_default-clause-passes c = pass.unmarked_passes (parts c.self.inside) c.self.invariant c.args.self.now
-    c.self.view_is (ap is_some (sym c.front.ensures.first ∙ c.in_default.is)) false c.both.result
-    (place.first_gone c.self.inside.ipv4_marker c.self.inside.ipv6_marker c.both.result c.both.ensures)
+    c.self.view_is (ap is_some (sym c.front.ensures.first ∙ c.in_default.is)) false c.both-ipv6.result
+    (place.first_gone c.self.inside.ipv4_marker c.self.inside.ipv6_marker c.both-ipv6.result c.both-ipv6.ensures)
 
 pub returns-in_default-clause-nodes : goal.returns-in_default-clause-nodes
 returns-in_default-clause-nodes c = place.unmarked_counts (parts c.self.inside) c.self.invariant c.args.self.now
-    c.self.view_is (ap is_some (sym c.front.ensures.first ∙ c.in_default.is)) false c.both.result
-    (place.first_gone c.self.inside.ipv4_marker c.self.inside.ipv6_marker c.both.result c.both.ensures)
+    c.self.view_is (ap is_some (sym c.front.ensures.first ∙ c.in_default.is)) false c.both-ipv6.result
+    (place.first_gone c.self.inside.ipv4_marker c.self.inside.ipv6_marker c.both-ipv6.result c.both-ipv6.ensures)
 
 pub stands-was-requires : goal.stands-was-requires
 stands-was-requires c = place.within_old (parts c.self.inside) c.self.invariant c.in-Some.item
