@@ -16,6 +16,9 @@ more-next-requires c =
     (subst (λ n. c.rows.place < n) c.places-end.ensures.places below) c.rows.invariant.0 c.is_node_at.ensures refl
     c.places-end.result c.rows.invariant.1 below
 
+pub rows-init : goal.rows-init
+rows-init c = (count.none_counted c.args.table.now, omega arith)
+
 pub rows-preserved : goal.rows-preserved
 rows-preserved c =
     let below : c.rows.place < c.places-end.result = grind (arith, common_steps) in
