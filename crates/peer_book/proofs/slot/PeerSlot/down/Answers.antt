@@ -1,0 +1,6 @@
+use Rattle.peer_book.specs.Seen.{seen}
+use Rattle.peer_book.proofs.KeptLemmas.{kept_down}
+use Rattle.peer_book.proofs.slot.PeerSlot.down.Goals as goal
+
+pub invariant_of-self : goal.invariant_of-self
+invariant_of-self c = kept_down (seen c.self.inside) c.down.new.self c.self.invariant c.down.ensures.restarts
