@@ -1,20 +1,29 @@
 -- What holds of a slot holds behind each call of its table.
-use Rattle.std.proofs.Common.{◌≡◌, Bool, true, false, List, [], ◌∷◌, Some, None, refl, sym, ap, ◌∙◌, subst}
-use Rattle.std.specs.Prelude.{Option, IsSome, is_some, if◌then◌else◌}
+use Rattle.std.proofs.Common.{◌≡◌, ℕ, Bool, true, false, List, [], ◌∷◌, Some, None, refl, sym, ap, ◌∙◌, subst}
+use Rattle.std.specs.Prelude.{Option, IsSome, is_some, if◌then◌else◌, Result, Ok, Err, IfOk, OnErr}
 use Rattle.std.specs.Option.{option_map, option_or}
 use Rattle.std.specs.List.{AllByRecursion}
 use Rattle.route_values.specs.declared.addr.Family.{Family}
 use Rattle.route_values.specs.declared.addr.Family.TheVariants.{Ipv4, Ipv6}
+use Rattle.std.proofs.lemmas.Option.{same_Some}
+use Rattle.route_values.specs.declared.attrs.Attrs.{Attrs}
 use Rattle.route_values.specs.declared.key.Key.{Key}
+use Rattle.route_values.specs.declared.settings.Settings.{Settings}
 use Rattle.route_values.specs.Caps.{Caps}
 use Rattle.route_values.specs.Key.{family_of_key}
 use Rattle.route_values.specs.Sent.{sent}
 use Rattle.update_grammar.specs.Written.{IsCarried}
-use Rattle.adj_rib_out.specs.State.{State, Session, Route, Item, route_at, told_at}
+use Rattle.route_values.specs.Settings.{side_of}
+use Rattle.batch_cutter.specs.Heads.{IsRoute}
+use Rattle.adj_rib_out.specs.declared.entry.Owner.{Owner}
+use Rattle.adj_rib_out.specs.State.{State, Session, Route, Item, route_at, told_at, value_at, route_of}
 use Rattle.adj_rib_out.specs.Batch.{AreOnce}
 use Rattle.adj_rib_out.specs.Calls.{again, fresh, KeepsRoutes, KeepsSession, KeepsBatch, Restarts, Refreshes}
+use Rattle.adj_rib_out.specs.Calls.{Readies, ReadiesSome}
+use Rattle.peer_history.specs.Keys.{is_named}
 use Rattle.peer_history.specs.Steps.{Code}
 use Rattle.peer_book.specs.Slot.{Slot, live_caps, IsSayable, IsSound, IsKept, IsRoutable}
+use Rattle.peer_book.specs.Tables.{SetsEach, AreKeys, CanAnnounce}
 
 -- routes that stay
 routes_stay : (old new : State) → IsSound old → KeepsRoutes old new → (key : Key) (route : Route)
@@ -56,6 +65,53 @@ sound_stays old new sound kept up told left = record {
       subst (λ caps. AllByRecursion (IsSayable caps) new.left) before.2
       (subst (AllByRecursion (IsSayable before.0.caps)) (sym left) (sound.left before.0 before.1));
   once = subst AreOnce (sym left) sound.once;
+}
+
+-- nothing was changed that a neighbour could see
+pub record IsCalm (old new : State) : Type 0 where
+  pub routes : KeepsRoutes old new
+  pub session : KeepsSession old new
+  pub batch : KeepsBatch old new
+
+pub calm_ready : {E : Type 0} (old new : State) (keys : List Key) (written : Attrs) (result : Result ℕ E)
+    → IfOk result (λ number. Readies old new keys written number) → OnErr result (ReadiesSome old new keys)
+    → IsCalm old new
+calm_ready old new keys written (Ok number) ok err =
+    record { routes = ok.routes; session = ok.session; batch = ok.batch }
+calm_ready old new keys written (Err fault) ok err =
+    record { routes = err.routes; session = err.session; batch = err.batch }
+
+pub sound_calm : (old new : State) → IsSound old → IsCalm old new → IsSound new
+sound_calm old new sound calm =
+    sound_stays old new sound calm.routes (λ session is. (session, sym calm.session.session ∙ is, refl))
+    calm.session.told calm.batch.left
+
+-- a route that is put at keys fits each of them
+abbrev pub FitsEach : State → List Key → Option Route → Type 0
+FitsEach old keys route = (key : Key) (one : Route) → is_named keys key ≡ true → route ≡ Some one
+    → IsRoutable key one.attrs × (one.attrs ≡ sent one.written old.side)
+
+sets_fit : (old new : State) (keys : List Key) (route : Option Route) → IsSound old → SetsEach old new keys route
+    → FitsEach old keys route → (key : Key) (one : Route) → route_at new key ≡ Some one
+    → IsRoutable key one.attrs × (one.attrs ≡ sent one.written old.side)
+sets_fit old new keys route sound sets fits key one is =
+    elim (is_named keys key) as (λ b. is_named keys key ≡ b → (if b then route else route_at old key) ≡ Some one
+    → IsRoutable key one.attrs × (one.attrs ≡ sent one.written old.side)) [
+      | true ↦ λ named at. fits key one named at
+      | false ↦ λ named at. (sound.routes key one at, sound.sent key one at)
+    ] refl (sym (sets.routes key) ∙ is)
+
+pub sound_sets : (old new : State) (keys : List Key) (route : Option Route) → IsSound old
+    → SetsEach old new keys route → FitsEach old keys route → IsSound new
+sound_sets old new keys route sound sets fits = record {
+  routes = λ key one is. (sets_fit old new keys route sound sets fits key one is).0;
+  sent = λ key one is. (sets_fit old new keys route sound sets fits key one is).1
+      ∙ ap (sent one.written) (sym sets.side);
+  told = λ session key is there.
+      sound.told session key (sym sets.session.session ∙ is) (sym (ap is_some (sets.session.told key)) ∙ there);
+  left = λ session is. subst (AllByRecursion (IsSayable session.caps)) (sym sets.batch.left)
+      (sound.left session (sym sets.session.session ∙ is));
+  once = subst AreOnce (sym sets.batch.left) sound.once;
 }
 
 again_stays : (family : Family) (was : Option Session) (session : Session)
@@ -131,3 +187,43 @@ kept_refresh slot new family kept refreshes =
     kept_with slot new slot.session slot.reset kept refreshes.routes
     (sound_refreshes slot.table new family kept.table refreshes)
     (ap (option_map (λ (s : Session). s.caps)) refreshes.session ∙ caps_again family slot.table.session ∙ kept.session)
+
+pub kept_calm : (slot : Slot) (new : State) → IsKept slot → IsCalm slot.table new
+    → IsKept (slot_with slot new slot.session slot.reset)
+kept_calm slot new kept calm =
+    kept_with slot new slot.session slot.reset kept calm.routes (sound_calm slot.table new kept.table calm)
+    (ap (option_map (λ (s : Session). s.caps)) calm.session.session ∙ kept.session)
+
+pub kept_sets : (slot : Slot) (new : State) (keys : List Key) (route : Option Route) → IsKept slot
+    → SetsEach slot.table new keys route → FitsEach slot.table keys route
+    → (slot.settings ≡ None → route ≡ None) → IsKept (slot_with slot new slot.session slot.reset)
+kept_sets slot new keys route kept sets fits vacant = record {
+  session = ap (option_map (λ (s : Session). s.caps)) sets.session.session ∙ kept.session;
+  side = λ own is. sets.side ∙ kept.side own is;
+  vacant = λ none key. sets.routes key
+      ∙ elim (is_named keys key) as (λ b. (if b then route else route_at slot.table key) ≡ None) [
+        | true ↦ vacant none
+        | false ↦ kept.vacant none key
+      ];
+  table = sound_sets slot.table new keys route kept.table sets fits;
+}
+
+-- routes of a value of the program fit their keys
+pub value_fits : (slot : Slot) (keys : List Key) (number : ℕ) (owner : Owner) → IsKept slot
+    → CanAnnounce slot keys number → AreKeys keys
+    → FitsEach slot.table keys (option_map (λ written. route_of slot.table.side written owner)
+    (value_at slot.table number))
+value_fits slot keys number owner kept can are key one named is =
+    let side : slot.table.side ≡ side_of can.own = kept.side can.own can.placed in
+    let made : Some (route_of slot.table.side can.written owner) ≡ Some one =
+    sym (ap (option_map (λ written. route_of slot.table.side written owner)) can.value) ∙ is in
+    let same : route_of slot.table.side can.written owner ≡ one = same_Some _ _ made in
+    subst (λ (r : Route). IsRoutable key r.attrs × (r.attrs ≡ sent r.written slot.table.side)) same
+    (record {
+      is_key = are key named;
+      route = subst (λ side. IsRoute (family_of_key key) (sent can.written side)) (sym side) (can.routes key named);
+    }, refl)
+
+pub placed_not : (settings : Option Settings) (own : Settings) → settings ≡ Some own → settings ≡ None → ⊥
+placed_not None own is none = cc
+placed_not (Some other) own is none = cc

@@ -1,15 +1,18 @@
 -- A slot that stands for a history stands for it with one more step.
-use Rattle.std.proofs.Common.{◌≡◌, Bool, true, false, List, [], ◌∷◌, ◌++◌, Some, None, refl, sym, ap, ◌∙◌, subst}
+use Rattle.std.proofs.Common.{◌≡◌, ℕ, Bool, true, false, List, [], ◌∷◌, ◌++◌, Some, None, refl, sym, ap, ◌∙◌, subst}
 use Rattle.std.specs.Prelude.{◌&&◌, ◌||◌, map, Option, IsSome, is_some, if◌then◌else◌}
 use Rattle.std.specs.Option.{option_map, option_or}
 use Rattle.std.proofs.lemmas.Option.{same_Some}
 use Rattle.route_values.specs.declared.addr.Family.{Family}
 use Rattle.route_values.specs.declared.addr.Family.TheVariants.{Ipv4, Ipv6}
+use Rattle.route_values.specs.declared.attrs.Attrs.{Attrs}
 use Rattle.route_values.specs.declared.key.Key.{Key}
 use Rattle.route_values.specs.Caps.{Caps}
 use Rattle.batch_cutter.specs.Grouped.{MayFollow}
 use Rattle.batch_cutter.specs.Items as batch
-use Rattle.adj_rib_out.specs.State.{State, Session, Item, route_at, told_at}
+use Rattle.adj_rib_out.specs.declared.entry.Owner.TheVariants as keeper
+use Rattle.adj_rib_out.specs.State.{State, Session, Item, route_at, told_at, value_at, route_of}
+use Rattle.adj_rib_out.specs.State as table
 use Rattle.adj_rib_out.specs.Batch.{attrs_said, item_at, is_left}
 use Rattle.adj_rib_out.specs.Calls.{again, fresh, is_open, KeepsRoutes, KeepsSession, KeepsBatch, Restarts, Refreshes}
 use Rattle.adj_rib_out.specs.Told.{items_left, batch_item}
@@ -18,10 +21,14 @@ use Rattle.peer_history.specs.Batches as history
 use Rattle.peer_history.specs.Messages.{said_each}
 use Rattle.peer_history.specs.Sessions.{session, reset, live, peer}
 use Rattle.peer_history.specs.Steps.{Step, Code}
-use Rattle.peer_history.specs.Steps.Step.{Up, Down, Ended, Refreshed}
+use Rattle.peer_history.specs.Steps.Step.{Announced, Withdrawn, Up, Down, Ended, Refreshed}
+use Rattle.peer_history.specs.Keys.{is_named}
+use Rattle.peer_history.specs.Table.{Route, want}
+use Rattle.peer_history.specs.Table.Owner.{Helper}
 use Rattle.peer_book.specs.Slot.{Slot}
 use Rattle.peer_book.specs.Stands.{asked, LeavesBatch, session_kept, StandsLive, Stands}
-use Rattle.peer_book.proofs.KeptLemmas.{slot_with}
+use Rattle.peer_book.specs.Tables.{SetsEach}
+use Rattle.peer_book.proofs.KeptLemmas.{slot_with, IsCalm}
 
 -- nothing is left of a batch
 shut : (state : State) → state.left ≡ [] → state.markers ≡ [] → is_open state ≡ false
@@ -138,3 +145,56 @@ stands_refresh steps slot new family stands refreshes = record {
   reset = stands.reset;
   live = λ caps is. live_refresh caps steps slot.table new family is refreshes (stands.live caps is);
 }
+
+-- nothing was changed that a history knows of
+pub stands_calm : (steps : List Step) (slot : Slot) (new : State) → Stands steps slot → IsCalm slot.table new
+    → Stands steps (slot_with slot new slot.session slot.reset)
+stands_calm steps slot new stands calm = record {
+  settings = stands.settings;
+  routes = λ key. ap (option_map asked) (calm.routes.routes key) ∙ stands.routes key;
+  session = stands.session;
+  reset = stands.reset;
+  live = λ caps is. live_kept caps steps steps slot.table new refl refl refl (λ key. refl) calm.session calm.batch
+      (stands.live caps is);
+}
+
+-- routes as they were asked for, where keys were changed
+asked_each : (old new : State) (keys : List Key) (route : Option table.Route) (before : Key → Option Route)
+    → SetsEach old new keys route → ((key : Key) → option_map asked (route_at old key) ≡ before key) → (key : Key)
+    → option_map asked (route_at new key) ≡ (if is_named keys key then option_map asked route else before key)
+asked_each old new keys route before sets was key =
+    ap (option_map asked) (sets.routes key)
+    ∙ elim (is_named keys key) as (λ b. option_map asked (if b then route else route_at old key)
+    ≡ (if b then option_map asked route else before key)) [
+      | true ↦ refl
+      | false ↦ was key
+    ]
+
+pub stands_withdraw : (steps : List Step) (slot : Slot) (new : State) (keys : List Key) → Stands steps slot
+    → SetsEach slot.table new keys None → Stands (Withdrawn keys ∷ steps) (slot_with slot new slot.session slot.reset)
+stands_withdraw steps slot new keys stands sets = record {
+  settings = stands.settings;
+  routes = asked_each slot.table new keys None (want steps) sets stands.routes;
+  session = stands.session;
+  reset = stands.reset;
+  live = λ caps is. live_kept caps steps (Withdrawn keys ∷ steps) slot.table new refl refl refl (λ key. refl)
+      sets.session sets.batch (stands.live caps is);
+}
+
+pub stands_announce : (steps : List Step) (slot : Slot) (new : State) (keys : List Key) (number : ℕ) (written : Attrs)
+    → value_at slot.table number ≡ Some written → Stands steps slot
+    → SetsEach slot.table new keys (option_map (λ w. route_of slot.table.side w keeper.Helper)
+    (value_at slot.table number)) → Stands (Announced keys written ∷ steps) (slot_with slot new slot.session slot.reset)
+stands_announce steps slot new keys number written value stands sets =
+    let is : option_map asked (option_map (λ w. route_of slot.table.side w keeper.Helper) (value_at slot.table number))
+    ≡ Some (record { attrs = written; owner = Helper }) =
+    ap (λ w. option_map asked (option_map (λ w. route_of slot.table.side w keeper.Helper) w)) value in
+    record {
+      settings = stands.settings;
+      routes = λ key. asked_each slot.table new keys _ (want steps) sets stands.routes key
+          ∙ ap (λ (r : Option Route). if is_named keys key then r else want steps key) is;
+      session = stands.session;
+      reset = stands.reset;
+      live = λ caps at. live_kept caps steps (Announced keys written ∷ steps) slot.table new refl refl refl (λ key. refl)
+          sets.session sets.batch (stands.live caps at);
+    }

@@ -1,3 +1,4 @@
 pub mod Slot
+pub mod Tables
 pub mod Stands
 pub mod Seen

@@ -3,6 +3,7 @@
 
 mod code;
 mod slot;
+mod table;
 
 pub use code::Code;
 pub use slot::PeerSlot;

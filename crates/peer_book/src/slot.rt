@@ -1,12 +1,17 @@
 //! A neighbour slot.
-ghost use Rattle.std.specs.Prelude.{◌≡◌, List, ◌∷◌};
+ghost use Rattle.std.specs.Prelude.{◌≡◌, ℕ, List, ◌∷◌, Some, IfOk, OnErr};
+ghost use Rattle.route_values.specs.declared.attrs.Attrs.{Attrs as Written};
+ghost use Rattle.adj_rib_out.specs.State.{value_at};
+ghost use Rattle.adj_rib_out.specs.Calls.{Readies, ReadiesSome};
 ghost use Rattle.peer_history.specs.Steps.{Step};
-ghost use Rattle.peer_history.specs.Steps.Step.{Up, Down, Ended, Refreshed};
+ghost use Rattle.peer_history.specs.Steps.Step.{Announced, Withdrawn, Up, Down, Ended, Refreshed};
 ghost use Rattle.peer_book.specs.Stands.{Stands};
+ghost use Rattle.peer_book.specs.Tables.{CanAnnounce};
 
 use crate::code::Code;
-use adj_rib_out::Rib;
-use route_values::{Caps, Family, Settings};
+use crate::table::{set_each, unset_each};
+use adj_rib_out::{Owner, Rib};
+use route_values::{Attrs, Caps, Family, Key, NoMemory, Settings};
 use std::marker::Model;
 
 /// A neighbour slot: the settings of the neighbour in it, its table, the session that stands, and the code that ended
@@ -32,6 +37,34 @@ impl Model for PeerSlot {
 }
 
 impl PeerSlot {
+    /// Stands keys and a value ready for `announce`, and answers the value's number. Nothing else changes, also where
+    /// memory is wanting.
+    pub fn prepare(&mut self, keys: &[Key], written: &Attrs) -> Result<usize, NoMemory>
+        ensures ok { IfOk result
+            (λ number. Readies self.old.table self.new.table keys.now written.now number) }
+        ensures err { OnErr result (ReadiesSome self.old.table self.new.table keys.now) }
+        ensures stands { (steps : List Step) → Stands steps self.old → Stands steps self.new }
+    {
+        self.table.ready(keys, written)
+    }
+
+    /// A helper announces routes of these keys with the value of this number, which all stand ready. It takes no
+    /// memory.
+    pub fn announce(&mut self, keys: &[Key], number: usize)
+        requires { CanAnnounce self.old keys.now number }
+        ensures { (steps : List Step) (written : Written) → value_at self.old.table number ≡ Some written
+            → Stands steps self.old → Stands (Announced keys.now written ∷ steps) self.new }
+    {
+        set_each(&mut self.table, keys, number, Owner::Helper);
+    }
+
+    /// A helper withdraws the routes of these keys, whoever asked for them.
+    pub fn withdraw(&mut self, keys: &[Key])
+        ensures { (steps : List Step) → Stands steps self.old → Stands (Withdrawn keys.now ∷ steps) self.new }
+    {
+        unset_each(&mut self.table, keys);
+    }
+
     /// A session comes up, on which nothing was sent. One that stood ends.
     pub fn up(&mut self, caps: Caps)
         ensures { (steps : List Step) → Stands steps self.old → Stands (Up caps ∷ steps) self.new }
