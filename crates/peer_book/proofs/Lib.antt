@@ -1,3 +1,5 @@
 pub mod KeptLemmas
+pub mod SoundLemmas
+pub mod PassLemmas
 pub mod StandsLemmas
 pub mod TableLemmas

@@ -1,4 +1,5 @@
 pub mod Slot
+pub mod Cutting
 pub mod Tables
 pub mod Stands
 pub mod Seen

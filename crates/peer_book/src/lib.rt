@@ -2,8 +2,11 @@
 #![tactic(auto)]
 
 mod code;
+mod cut;
+mod cutting;
 mod slot;
 mod table;
 
 pub use code::Code;
+pub use cut::Cut;
 pub use slot::PeerSlot;
