@@ -91,3 +91,184 @@ passes_routes (item ∷ items) old new passed =
       side = rest.side ∙ passed.1.routes.side;
       routes = λ key. rest.routes key ∙ passed.1.routes.routes key;
     }
+
+-- ---- keys
+
+-- what the batch will say of a key
+abbrev pub HasValue : State → Option WireAttrs → Key → Type 0
+HasValue old value key = (item : Item) × (item_at old.left key ≡ Some item) × (attrs_said item.says ≡ value)
+
+-- these keys were left, each once, and are passed, with one value
+pub record PassesKeys (old new : State) (keys : List Key) (value : Option WireAttrs) : Type 0 where
+  pub told : (key : Key) → told_at new key ≡ (if is_named keys key then value else told_at old key)
+  pub left : (key : Key) → is_left new.left key ≡ (is_left old.left key && not (is_named keys key))
+  pub says : (key : Key) (item : Item) → item_at new.left key ≡ Some item → item_at old.left key ≡ Some item
+  pub markers : new.markers ≡ old.markers
+  pub named : AreSomeOf (is_left old.left) keys
+  pub values : AllByRecursion (HasValue old value) keys
+  pub once : AreOnce new.left
+
+or_none : (b : Bool) → b ≡ (b || false)
+or_none true = refl
+or_none false = refl
+
+-- a key that was left once is left no longer
+less_one : (i : Item) (is : List Item) (key : Key) → is_left is i.key ≡ false
+    → is_left is key ≡ ((same_key i.key key || is_left is key) && not (same_key i.key key || false))
+less_one i is key once =
+    elim (same_key i.key key) as (λ b. same_key i.key key ≡ b
+    → is_left is key ≡ ((b || is_left is key) && not (b || false))) [
+      | true ↦ λ same. ap (is_left is) (sym (same_key_is i.key key same)) ∙ once
+      | false ↦ λ other. and_yes (is_left is key)
+    ] refl
+  where
+    and_yes : (b : Bool) → b ≡ (b && true)
+    and_yes true = refl
+    and_yes false = refl
+
+pass_one : (i : Item) (is : List Item) (old new : State) → old.left ≡ i ∷ is → AreOnce old.left → Passes old new
+    → PassesKeys old new (i.key ∷ []) (attrs_said i.says)
+pass_one i is old new at once passes =
+    let due : PassesItem old new i = subst (λ l. PassesDue l old new) at passes.due in
+    let rest : new.left ≡ is = due.left ∙ ap (drop 1) at in
+    let all = subst AreOnce at once in
+    record {
+      told = λ key. due.told key
+          ∙ ap (λ b. if b then attrs_said i.says else told_at old key) (or_none (same_key i.key key));
+      left = λ key. ap (λ l. is_left l key) rest ∙ less_one i is key all.0
+          ∙ ap (λ l. is_left l key && not (same_key i.key key || false)) (sym at);
+      says = λ key item is_at. ap (λ l. item_at l key) at
+          ∙ item_later i is key item all.0 (ap (λ l. item_at l key) (sym rest) ∙ is_at);
+      markers = due.markers;
+      named = (ap (λ l. is_left l i.key) at ∙ ap (λ b. b || is_left is i.key) (same_key-self i.key), tt);
+      values = ((i, ap (λ l. item_at l i.key) at ∙ item_first i is, refl), tt);
+      once = subst AreOnce (sym rest) all.1;
+    }
+
+pub some_of-same : (keys : List Key) (p q : Key → Bool) → ((key : Key) → p key ≡ q key) → AreSomeOf p keys
+    → AreSomeOf q keys
+some_of-same [] p q same some = tt
+some_of-same (k ∷ ks) p q same some =
+    (sym (same k) ∙ some.0, some_of-same ks (λ key. p key && not (same_key k key)) (λ key. q key && not (same_key k key))
+    (λ key. ap (λ b. b && not (same_key k key)) (same key)) some.1)
+
+pub all-map : {A : Type 0} (P Q : A → Type 0) (items : List A) → ((item : A) → P item → Q item)
+    → AllByRecursion P items → AllByRecursion Q items
+all-map P Q [] to all = tt
+all-map P Q (item ∷ items) to all = (to item all.0, all-map P Q items to all.1)
+
+told_both : {A : Type 0} (named same : Bool) (value other : A)
+    → (if named then value else (if same || false then value else other)) ≡ (if same || named then value else other)
+told_both true true value other = refl
+told_both true false value other = refl
+told_both false true value other = refl
+told_both false false value other = refl
+
+left_both : (left same named : Bool) → ((left && not (same || false)) && not named) ≡ (left && not (same || named))
+left_both false same named = refl
+left_both true true named = refl
+left_both true false true = refl
+left_both true false false = refl
+
+pass_then : (old mid new : State) (key : Key) (keys : List Key) (value : Option WireAttrs)
+    → PassesKeys old mid (key ∷ []) value → PassesKeys mid new keys value → PassesKeys old new (key ∷ keys) value
+pass_then old mid new key keys value one rest = record {
+  told = λ k. rest.told k ∙ ap (λ (w : Option WireAttrs). if is_named keys k then value else w) (one.told k)
+      ∙ told_both (is_named keys k) (same_key key k) value (told_at old k);
+  left = λ k. rest.left k ∙ ap (λ b. b && not (is_named keys k)) (one.left k)
+      ∙ left_both (is_left old.left k) (same_key key k) (is_named keys k);
+  says = λ k item is. one.says k item (rest.says k item is);
+  markers = rest.markers ∙ one.markers;
+  named = (one.named.0, some_of-same keys (is_left mid.left) (λ k. is_left old.left k && not (same_key key k))
+      (λ k. one.left k ∙ ap (λ b. is_left old.left k && not b) (sym (or_none (same_key key k)))) rest.named);
+  values = (one.values.0, all-map (HasValue mid value) (HasValue old value) keys
+      (λ k has. (has.0, one.says k has.0 has.1, has.2)) rest.values);
+  once = rest.once;
+}
+
+pass_none : (old : State) (value : Option WireAttrs) → AreOnce old.left → PassesKeys old old [] value
+pass_none old value once = record {
+  told = λ key. refl;
+  left = λ key. and_yes (is_left old.left key);
+  says = λ key item is. is;
+  markers = refl;
+  named = tt;
+  values = tt;
+  once = once;
+}
+  where
+    and_yes : (b : Bool) → b ≡ (b && true)
+    and_yes true = refl
+    and_yes false = refl
+
+-- ---- items
+
+-- the message is no marker
+abbrev pub NamesKeys : Head → Type 0
+NamesKeys (head.End family) = ⊥
+NamesKeys _ = Unit {0}
+
+-- what an item of a message is
+record IsItem (h : Head) (items : List batch.Item) (i : Item) : Type 0 where
+  keys : keys_of (batch_item i ∷ items) ≡ i.key ∷ keys_of items
+  value : attrs_said i.says ≡ value_given h
+
+is_item : (h : Head) (items : List batch.Item) (key : Key) (says : Option (ℕ × WireAttrs)) → NamesKeys h
+    → IsFor h (item_by key says) → IsItem h items (record { key = key; says = says })
+is_item (head.Gone family) items key None names for_it = record { keys = refl; value = refl }
+is_item (head.Gone family) items key (Some said) names for_it = absurd for_it
+is_item (head.Here family w) items key None names for_it = absurd for_it
+is_item (head.Here family w) items key (Some said) names for_it = record { keys = refl; value = ap Some for_it.1 }
+is_item (head.End family) items key says names for_it = absurd names
+
+-- the first that is left is the first item of the message
+record IsFirst (h : Head) (item : batch.Item) (left : List Item) : Type 0 where
+  i : Item
+  is : List Item
+  at : left ≡ i ∷ is
+  same : batch_item i ≡ item
+
+is_first : (h : Head) (item : batch.Item) (rest : List batch.Item) (left : List Item) (markers : List Family)
+    → NamesKeys h → IsFor h item → (map batch_item left ++ map batch.End markers) ≡ item ∷ rest → IsFirst h item left
+is_first h item rest [] [] names for_it split = absurd cc
+is_first h item rest [] (f ∷ fs) names for_it split =
+    let same : batch.End f ≡ item = cc in absurd (no_marker h f names (subst (IsFor h) (sym same) for_it))
+  where
+    no_marker : (h : Head) (f : Family) → NamesKeys h → IsFor h (batch.End f) → ⊥
+    no_marker (head.Gone family) f names for_it = for_it
+    no_marker (head.Here family w) f names for_it = for_it
+    no_marker (head.End family) f names for_it = names
+is_first h item rest (i ∷ is) markers names for_it split = record { i = i; is = is; at = refl; same = cc }
+
+later_items : (item : batch.Item) (items rest others : List batch.Item) → item ∷ others ≡ item ∷ rest → others ≡ rest
+later_items item items rest others same = ap (λ (l : List batch.Item). elim l [ [] ↦ [] | _ ∷ r ↦ r ]) same
+
+behind : (i : Item) (is : List Item) (old new : State) → old.left ≡ i ∷ is → Passes old new
+    → items_left old ≡ batch_item i ∷ items_left new
+behind i is old new at passes =
+    let due : PassesItem old new i = subst (λ l. PassesDue l old new) at passes.due in
+    let rest : new.left ≡ is = due.left ∙ ap (drop 1) at in
+    ap (λ l. map batch_item l ++ map batch.End old.markers) at
+    ∙ ap (λ l. batch_item i ∷ (map batch_item l ++ map batch.End old.markers)) (sym rest)
+    ∙ ap (λ m. batch_item i ∷ (map batch_item new.left ++ map batch.End m)) (sym due.markers)
+
+pub pass_items : (h : Head) (items : List batch.Item) (old new : State) → NamesKeys h
+    → AllByRecursion (IsFor h) items → items_left old ≡ items ++ items_left new → PassesEach Passing items old new
+    → AreOnce old.left → PassesKeys old new (keys_of items) (value_given h)
+pass_items h [] old new names alike split same once =
+    subst (λ s. PassesKeys old s [] (value_given h)) (sym same) (pass_none old (value_given h) once)
+pass_items h (item ∷ items) old new names alike split passed once =
+    let first = is_first h item (items ++ items_left new) old.left old.markers names alike.0 split in
+    let mid = passed.0 in
+    let for_it : IsFor h (batch_item first.i) = subst (IsFor h) (sym first.same) alike.0 in
+    let facts = is_item h items first.i.key first.i.says names for_it in
+    let one : PassesKeys old mid (first.i.key ∷ []) (value_given h) =
+    subst (PassesKeys old mid (first.i.key ∷ [])) facts.value
+    (pass_one first.i first.is old mid first.at once passed.1) in
+    let rest : items_left mid ≡ items ++ items_left new =
+    ap (λ (l : List batch.Item). elim l [ [] ↦ [] | _ ∷ r ↦ r ])
+    (sym (behind first.i first.is old mid first.at passed.1) ∙ split) in
+    let all = pass_items h items mid new names alike.1 rest passed.2 one.once in
+    subst (λ keys. PassesKeys old new keys (value_given h))
+    (sym (ap (λ it. keys_of (it ∷ items)) (sym first.same) ∙ facts.keys))
+    (pass_then old mid new first.i.key (keys_of items) (value_given h) one all)

@@ -99,7 +99,7 @@ leaves_kept caps start messages old new leaves kept = record {
 }
 
 -- whether something is left, by what is
-abbrev some_left : List Item → List Family → Bool
+abbrev pub some_left : List Item → List Family → Bool
 some_left left markers = elim left [ _ ∷ _ ↦ true | [] ↦ elim markers [ _ ∷ _ ↦ true | [] ↦ false ] ]
 
 open_same : (old new : State) → KeepsBatch old new → is_open new ≡ is_open old
