@@ -3,5 +3,8 @@ pub mod SoundLemmas
 pub mod PassLemmas
 pub mod DifferLemmas
 pub mod ReadyLemmas
+pub mod MessageLemmas
+pub mod MarkerLemmas
+pub mod CutLemmas
 pub mod StandsLemmas
 pub mod TableLemmas

@@ -64,7 +64,7 @@ pass_sound (item ∷ items) old new at sound passes due =
       once = subst AreOnce (sym rest) (subst AreOnce at sound.once).1;
     }
 
-abbrev Passing : State → batch.Item → State → Type 0
+abbrev pub Passing : State → batch.Item → State → Type 0
 Passing old item new = Passes old new
 
 pub passes_sound : (items : List batch.Item) (old new : State) → IsSound old → PassesEach Passing items old new

@@ -1,18 +1,27 @@
 //! A neighbour slot.
-ghost use Rattle.std.specs.Prelude.{◌≡◌, ℕ, List, ◌∷◌, Some, IfOk, OnErr};
+ghost use Rattle.std.specs.Prelude.{◌≡◌, ◌≤◌, ℕ, List, [], ◌∷◌, Some, IfOk, OnErr};
 ghost use Rattle.route_values.specs.declared.attrs.Attrs.{Attrs as Written};
+ghost use Rattle.route_values.specs.Caps.{Caps as Carried};
+ghost use Rattle.update_grammar.specs.Packed.{room};
 ghost use Rattle.adj_rib_out.specs.State.{value_at};
 ghost use Rattle.adj_rib_out.specs.Calls.{Readies, ReadiesSome};
+ghost use Rattle.peer_history.specs.Cuts.{MayAnswer};
 ghost use Rattle.peer_history.specs.Steps.{Step};
 ghost use Rattle.peer_history.specs.Steps.Step.{Announced, Withdrawn, Up, Down, Ended, Refreshed};
+ghost use Rattle.peer_history.specs.Steps.Step.{Cut as CutStep};
+ghost use Rattle.peer_book.specs.Cutting.{answered};
 ghost use Rattle.peer_book.specs.Stands.{Stands};
 ghost use Rattle.peer_book.specs.Tables.{CanAnnounce};
 
 use crate::code::Code;
+use crate::cut::Cut;
+use crate::cutting::cut_next;
 use crate::table::{set_each, unset_each};
 use adj_rib_out::{Owner, Rib};
+use attr_codec::Message;
 use route_values::{Attrs, Caps, Family, Key, NoMemory, Settings};
 use std::marker::Model;
+use update_grammar::{reading_is_spelling, written_is_spelled};
 
 /// A neighbour slot: the settings of the neighbour in it, its table, the session that stands, and the code that ended
 /// that session. A contract says of a call: where the slot stood for a history of steps, it then stands for that
@@ -96,5 +105,30 @@ impl PeerSlot {
         ensures { (steps : List Step) → Stands steps self.old → Stands (Refreshed family ∷ steps) self.new }
     {
         self.table.refresh(family);
+    }
+
+    /// Makes the next message of the session in an empty buffer, and answers what it is: nothing where no session
+    /// stands, where a code ended it, or where nothing is owed. It takes no memory.
+    pub fn cut(&mut self, out: &mut Message) -> Cut
+        requires empty { out.old.bytes ≡ [] }
+        requires room { (caps : Carried) → self.old.session ≡ Some caps → room caps ≤ out.old.room }
+        ensures may { (steps : List Step) → Stands steps self.old
+            → MayAnswer steps (answered out.new.bytes result)
+            × Stands (CutStep (answered out.new.bytes result) ∷ steps) self.new }
+        ensures room { out.new.room ≡ out.old.room }
+    {
+        let Some(caps) = self.session else {
+            return Cut::NoSession;
+        };
+        if let Some(code) = self.reset {
+            return Cut::Reset(code);
+        }
+        // For the proof: what is written spells what it is meant to.
+        reading_is_spelling();
+        written_is_spelled();
+        match cut_next(&mut self.table, caps, out) {
+            None => Cut::Nothing,
+            Some(last) => Cut::Message { last },
+        }
     }
 }
