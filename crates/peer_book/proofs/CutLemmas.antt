@@ -1,7 +1,7 @@
 -- A slot from which a message is cut.
 use Rattle.std.proofs.Common.{◌≡◌, ℕ, ◌+◌, ◌<◌, ◌≤◌, Bool, true, false, not, List, [], ◌∷◌, ◌++◌, length, Some, None, refl}
 use Rattle.std.proofs.Common.{sym, ap, ◌∙◌, subst, arith, inl, inr}
-use Rattle.std.specs.Prelude.{◌↔◌, ◌⊎◌, Option, IsTrue, IsSome, is_some, if◌then◌else◌}
+use Rattle.std.specs.Prelude.{◌↔◌, ◌⊎◌, Option, MatchOption, IsTrue, IsSome, is_some, if◌then◌else◌}
 use Rattle.std.specs.Option.{option_map}
 use Rattle.std.specs.List.{AllByRecursion}
 use Rattle.std.proofs.lemmas.Option.{same_Some}
@@ -10,13 +10,15 @@ use Rattle.route_values.specs.declared.key.Key.{Key}
 use Rattle.route_values.specs.Caps.{Caps}
 use Rattle.update_grammar.specs.Head.{Head}
 use Rattle.update_grammar.specs.Head as head
+use Rattle.update_grammar.specs.Laws.{SpelledEffectsAreRead, HereIsNoMarker, GoneIsNoMarker}
+use Rattle.update_grammar.specs.Laws.{HereIsSpelled, GoneIsSpelled, EndIsSpelled}
 use Rattle.update_grammar.specs.Packed.{room}
 use Rattle.update_grammar.specs.Written.{written}
 use Rattle.batch_cutter.specs.Filling.{Fills, GoesOn, PassesEach, IsMadeOf, IsAlone}
 use Rattle.batch_cutter.specs.Heads.{Fits}
 use Rattle.batch_cutter.specs.Items as batch
 use Rattle.batch_cutter.specs.Items.{keys_of, said_by, IsFor}
-use Rattle.adj_rib_out.specs.State.{State, route_at, told_at}
+use Rattle.adj_rib_out.specs.State.{State, Session, route_at, told_at}
 use Rattle.adj_rib_out.specs.Calls.{is_open, Freezes, KeepsRoutes, PassesDue}
 use Rattle.adj_rib_out.specs.Told.{items_left}
 use Rattle.peer_history.specs.Batches.{opened, first_cut, NothingLeft}
@@ -27,10 +29,11 @@ use Rattle.peer_history.specs.Sessions.{session, reset, live, peer}
 use Rattle.peer_history.specs.Steps.{Step, Code}
 use Rattle.peer_history.specs.Steps as step
 use Rattle.peer_history.specs.Steps.Step.{Cut}
-use Rattle.peer_book.specs.Cutting.{MakesReady, GoesOnOrBegins, CutsNothing, CutsMessage}
+use Rattle.peer_book.specs.declared.cut.Cut.{Cut as Answer}
+use Rattle.peer_book.specs.Cutting.{answered, MakesReady, GoesOnOrBegins, CutsNothing, CutsMessage}
 use Rattle.peer_book.specs.Slot.{Slot, IsSound, IsKept}
 use Rattle.peer_book.specs.Stands.{asked, LeavesBatch, session_kept, StandsLive, Stands}
-use Rattle.peer_book.proofs.KeptLemmas.{slot_with}
+use Rattle.peer_book.proofs.KeptLemmas.{slot_with, kept_with}
 use Rattle.peer_book.proofs.StandsLemmas.{live_kept}
 use Rattle.peer_book.proofs.SoundLemmas.{sound_freezes}
 use Rattle.peer_book.proofs.PassLemmas.{Passing, NamesKeys, passes_session, passes_routes}
@@ -225,3 +228,39 @@ cut_reset steps slot caps code stands up is = ((ap is_some (sym stands.session �
   live = λ other at. same_live other steps (Cut (step.Reset code) ∷ steps) slot.table refl refl refl (λ key. refl)
       (stands.live other at);
 })
+
+-- what a cut keeps, whatever it answers
+pub cuts_routes : (caps : Caps) (old new : State) (bytes : List ℕ) (result : Option Bool)
+    → MatchOption result (CutsNothing old new) (λ last. CutsMessage caps old new bytes last) → KeepsRoutes old new
+cuts_routes caps old new bytes None cuts = ready_routes old new cuts.ready
+cuts_routes caps old new bytes (Some last) cuts =
+    let before = ready_routes old cuts.mid cuts.ready in
+    let behind = passes_routes cuts.fills.items cuts.mid new cuts.fills.passed in
+    record { side = behind.side ∙ before.side; routes = λ key. behind.routes key ∙ before.routes key }
+
+pub kept_cut : (slot : Slot) (new : State) (caps : Caps) → IsKept slot → slot.session ≡ Some caps → slot.reset ≡ None
+    → KeepsRoutes slot.table new → IsSound new → option_map (λ (s : Session). s.caps) new.session ≡ Some caps
+    → IsKept (slot_with slot new slot.session slot.reset)
+kept_cut slot new caps kept up none routes sound live =
+    kept_with slot new slot.session slot.reset kept routes sound
+    (live ∙ sym (ap (λ (code : Option Code). if is_some code then None else slot.session) none ∙ up))
+
+-- what the laws of the grammar give
+pub texts_of : SpelledEffectsAreRead → HereIsNoMarker → GoneIsNoMarker → ((family : Family) → HereIsSpelled family)
+    → ((family : Family) → GoneIsSpelled family) → ((family : Family) → EndIsSpelled family) → Texts
+texts_of read here_no gone_no here gone end = record {
+  grammar = record { read = read; here_is_no_marker = here_no; gone_is_no_marker = gone_no };
+  here = here;
+  gone = gone;
+  end = end;
+}
+
+-- an answer that is another
+pub cut_answer : (steps : List Step) (slot : Slot) (new : State) (bytes : List ℕ) (answer other : Answer)
+    → answer ≡ other → MayAnswer steps (answered bytes other)
+    × Stands (Cut (answered bytes other) ∷ steps) (slot_with slot new slot.session slot.reset)
+    → MayAnswer steps (answered bytes answer)
+    × Stands (Cut (answered bytes answer) ∷ steps) (slot_with slot new slot.session slot.reset)
+cut_answer steps slot new bytes answer other same given =
+    subst (λ a. MayAnswer steps (answered bytes a)
+    × Stands (Cut (answered bytes a) ∷ steps) (slot_with slot new slot.session slot.reset)) (sym same) given

@@ -144,7 +144,7 @@ slot_with slot table session reset =
     record { settings = slot.settings; table = table; session = session; reset = reset }
 
 -- a table that keeps its routes, in a slot whose live session it has
-kept_with : (slot : Slot) (new : State) (session : Option Caps) (reset : Option Code) → IsKept slot
+pub kept_with : (slot : Slot) (new : State) (session : Option Caps) (reset : Option Code) → IsKept slot
     → KeepsRoutes slot.table new → IsSound new
     → option_map (λ s. s.caps) new.session ≡ live_caps (slot_with slot new session reset)
     → IsKept (slot_with slot new session reset)

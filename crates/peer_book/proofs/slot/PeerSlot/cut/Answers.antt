@@ -1,0 +1,33 @@
+use Rattle.std.proofs.Common.{sym, ap, ◌∙◌, subst}
+use Rattle.peer_book.specs.Cutting.{answered}
+use Rattle.peer_book.specs.Seen.{seen}
+use Rattle.peer_book.specs.Stands.{Stands}
+use Rattle.peer_book.proofs.CutLemmas.{cuts_routes, kept_cut, texts_of, cut_answer, cut_nothing, cut_message}
+use Rattle.peer_book.proofs.slot.PeerSlot.cut.Goals as goal
+use Rattle.peer_book.proofs.slot.PeerSlot.cut.Goals.{in-None, in-Some-cut_next}
+
+pub invariant_of-self : goal.invariant_of-self
+invariant_of-self c =
+    kept_cut (seen c.self.inside) c.cut_next.new.table c.in-Some.caps c.self.invariant c.in-Some.is
+    c.in_default-reset.is
+    (cuts_routes c.in-Some.caps c.self.inside.table c.cut_next.new.table c.cut_next.new.out.bytes c.cut_next.result
+    c.cut_next.ensures.cuts) c.cut_next.ensures.sound c.cut_next.ensures.session
+
+pub returns-clause-may : goal.returns-clause-may
+returns-clause-may c = λ steps stands.
+    let slot = seen c.self.inside in
+    let new = c.cut_next.new.table in
+    let bytes = c.cut_next.new.out.bytes in
+    let was = subst (Stands steps) (sym c.self.view_is) stands in
+    let read = c.reading_is_spelling.ensures in
+    let written = c.written_is_spelled.ensures in
+    let texts = texts_of read.effects_only written.here_is_no_marker written.gone_is_no_marker written.here written.gone
+    written.end in
+    elim c.match-cut_next.branch [
+      | in-None w ↦ cut_answer steps slot new bytes _ _ w.result-is
+          (cut_nothing steps slot new c.in-Some.caps c.self.invariant was c.in-Some.is c.in_default-reset.is
+          w.in-None.ensures.cuts)
+      | in-Some-cut_next w ↦ cut_answer steps slot new bytes _ _ w.result-is
+          (cut_message texts steps slot new c.in-Some.caps bytes w.in-Some-cut_next.last c.self.invariant was
+          c.in-Some.is c.in_default-reset.is w.in-Some-cut_next.ensures.cuts)
+    ]
