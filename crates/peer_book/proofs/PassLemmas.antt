@@ -3,10 +3,12 @@ use Rattle.std.proofs.Common.{◌≡◌, ℕ, ◌+◌, ◌<◌, Bool, true, fals
 use Rattle.std.proofs.Common.{sym, ap, ◌∙◌, subst, inl, inr, arith}
 use Rattle.std.specs.Prelude.{◌&&◌, ◌||◌, map, Option, IsSome, IsTrue, is_some, if◌then◌else◌}
 use Rattle.std.specs.Bool.{OnTrue}
+use Rattle.std.specs.Option.{option_map}
 use Rattle.std.specs.List.{AllByRecursion}
 use Rattle.route_values.specs.declared.addr.Family.{Family}
 use Rattle.route_values.specs.declared.attrs.WireAttrs.{WireAttrs}
 use Rattle.route_values.specs.declared.key.Key.{Key}
+use Rattle.route_values.specs.Caps.{Caps}
 use Rattle.route_values.specs.Key.{family_of_key, same_key}
 use Rattle.route_values.proofs.KeyLemmas.{same_key_is, same_key-self}
 use Rattle.update_grammar.specs.Head.{Head}
@@ -15,14 +17,14 @@ use Rattle.update_grammar.specs.Written.{IsCarried}
 use Rattle.batch_cutter.specs.Heads.{family_of_head}
 use Rattle.batch_cutter.specs.Items as batch
 use Rattle.batch_cutter.specs.Items.{keys_of, IsFor}
-use Rattle.batch_cutter.specs.Filling.{PassesEach}
+use Rattle.batch_cutter.specs.Filling.{CanFill, PassesEach}
 use Rattle.adj_rib_out.specs.State.{State, Session, Item, told_at}
 use Rattle.adj_rib_out.specs.Batch.{attrs_said, item_at, is_left, AreOnce}
 use Rattle.adj_rib_out.specs.Calls.{KeepsRoutes, Passes, PassesDue, PassesItem, PassesMarker}
 use Rattle.adj_rib_out.specs.Told.{items_left, batch_item, item_by}
 use Rattle.peer_history.specs.Keys.{is_named, AreSomeOf}
 use Rattle.peer_history.specs.Messages.{value_given}
-use Rattle.peer_book.specs.Slot.{IsSayable, IsSound}
+use Rattle.peer_book.specs.Slot.{SaysRoute, IsSayable, IsSound}
 use Rattle.peer_book.proofs.SoundLemmas.{item_first, item_later, item_is_left}
 
 -- what is ensured where the answer is true
@@ -91,6 +93,29 @@ passes_routes (item ∷ items) old new passed =
       side = rest.side ∙ passed.1.routes.side;
       routes = λ key. rest.routes key ∙ passed.1.routes.routes key;
     }
+
+-- what comes first can be said
+can_fill_left : (caps : Caps) (left : List Item) (markers : List Family) → AllByRecursion (IsSayable caps) left
+    → CanFill (map batch_item left ++ map batch.End markers)
+can_fill_left caps [] [] all = tt
+can_fill_left caps [] (f ∷ fs) all = tt
+can_fill_left caps (item ∷ items) markers all =
+    can_say item.key item.says (map batch_item items ++ map batch.End markers) all.0.says
+  where
+    can_say : (key : Key) (says : Option (ℕ × WireAttrs)) (rest : List batch.Item) → SaysRoute key (attrs_said says)
+        → CanFill (item_by key says ∷ rest)
+    can_say key None rest says = tt
+    can_say key (Some said) rest says = says
+
+pub can_fill : (caps : Caps) (state : State) → IsSound state
+    → option_map (λ (s : Session). s.caps) state.session ≡ Some caps → CanFill (items_left state)
+can_fill caps state sound at = by_session state.session refl at
+  where
+    by_session : (session : Option Session) → state.session ≡ session
+        → option_map (λ (s : Session). s.caps) session ≡ Some caps → CanFill (items_left state)
+    by_session None is at = absurd cc
+    by_session (Some session) is at =
+        can_fill_left session.caps state.left state.markers (sound.left session is)
 
 -- ---- keys
 

@@ -3,3 +3,4 @@ pub mod Cutting
 pub mod Tables
 pub mod Stands
 pub mod Seen
+pub mod Statics

@@ -5,6 +5,7 @@ mod code;
 mod cut;
 mod cutting;
 mod slot;
+mod statics;
 mod table;
 
 pub use code::Code;
