@@ -81,6 +81,9 @@ calm_ready old new keys written (Ok number) ok err =
 calm_ready old new keys written (Err fault) ok err =
     record { routes = err.routes; session = err.session; batch = err.batch }
 
+pub calm_failed : (old new : State) (keys : List Key) → ReadiesSome old new keys → IsCalm old new
+calm_failed old new keys some = record { routes = some.routes; session = some.session; batch = some.batch }
+
 pub sound_calm : (old new : State) → IsSound old → IsCalm old new → IsSound new
 sound_calm old new sound calm =
     sound_stays old new sound calm.routes (λ session is. (session, sym calm.session.session ∙ is, refl))

@@ -8,3 +8,4 @@ pub mod MarkerLemmas
 pub mod CutLemmas
 pub mod StandsLemmas
 pub mod TableLemmas
+pub mod StaticsLemmas
