@@ -40,8 +40,8 @@ ready_value old mid keys written number ready =
 -- an answer that is none
 pub none_at : {A B : Type 0} (f : A → B) (o : Option A) (b : Bool) (r : Option B) → is_some o ≡ not b → b ≡ true
     → option_map f o ≡ r → r ≡ None
-none_at f None b r is yes at = sym at
-none_at f (Some a) b r is yes at = absurd (let no_way : true ≡ false = is ∙ ap not yes in cc)
+none_at f None b r is so at = sym at
+none_at f (Some a) b r is so at = absurd (let no_way : true ≡ false = is ∙ ap not so in cc)
 
 or_none : {A : Type 0} (o : Option A) → o ≡ option_or o None
 or_none None = refl
@@ -98,9 +98,9 @@ module _ (old mid new : State) (key : Key) (written : Attrs) (number : ℕ)
         is_key = are k named;
         route = elim (same_key key k) as (λ b. same_key key k ≡ b → (b || false) ≡ true
             → IsRoute (family_of_key k) (sent written mid.side)) [
-              | true ↦ λ same yes. subst (λ j. IsRoute (family_of_key j) (sent written mid.side)) (same_key_is key k same)
+              | true ↦ λ same so. subst (λ j. IsRoute (family_of_key j) (sent written mid.side)) (same_key_is key k same)
                   (subst (λ side. IsRoute (family_of_key key) (sent written side)) (sym ready.routes.side) route)
-              | false ↦ λ other yes. absurd cc
+              | false ↦ λ other so. absurd cc
             ] refl named;
       }, refl)
 

@@ -1,24 +1,29 @@
 //! A neighbour slot.
-ghost use Rattle.std.specs.Prelude.{◌≡◌, ◌≤◌, ℕ, List, [], ◌∷◌, Some, IfOk, OnErr};
+ghost use Rattle.std.specs.Prelude.{◌≡◌, ◌≤◌, ℕ, List, [], ◌∷◌, Some, None, IfOk, OnErr};
+ghost use Rattle.route_values.specs.Settings.{side_of};
 ghost use Rattle.route_values.specs.declared.attrs.Attrs.{Attrs as Written};
 ghost use Rattle.route_values.specs.Caps.{Caps as Carried};
 ghost use Rattle.update_grammar.specs.Packed.{room};
 ghost use Rattle.adj_rib_out.specs.State.{value_at};
-ghost use Rattle.adj_rib_out.specs.Calls.{Readies, ReadiesSome};
+ghost use Rattle.adj_rib_out.specs.Calls.{empty, Readies, ReadiesSome};
 ghost use Rattle.peer_history.specs.Cuts.{MayAnswer};
 ghost use Rattle.peer_history.specs.Steps.{Step};
-ghost use Rattle.peer_history.specs.Steps.Step.{Announced, Withdrawn, Up, Down, Ended, Refreshed};
+ghost use Rattle.peer_history.specs.Steps.Step.{Announced, Withdrawn, Placed, Vacated, Up, Down, Ended, Refreshed};
 ghost use Rattle.peer_history.specs.Steps.Step.{Cut as CutStep};
 ghost use Rattle.peer_book.specs.Cutting.{answered};
+ghost use Rattle.peer_book.specs.Slot.{live_caps};
 ghost use Rattle.peer_book.specs.Stands.{Stands};
+ghost use Rattle.peer_book.specs.Statics.{statics_of, AreRoutes, StandsWithout, IsExchange};
 ghost use Rattle.peer_book.specs.Tables.{CanAnnounce};
 
 use crate::code::Code;
 use crate::cut::Cut;
 use crate::cutting::cut_next;
+use crate::statics::put_statics;
 use crate::table::{set_each, unset_each};
 use adj_rib_out::{Owner, Rib};
 use attr_codec::Message;
+use config_model::StaticRoute;
 use route_values::{Attrs, Caps, Family, Key, NoMemory, Settings};
 use std::marker::Model;
 use update_grammar::{reading_is_spelling, written_is_spelled};
@@ -26,6 +31,7 @@ use update_grammar::{reading_is_spelling, written_is_spelled};
 /// A neighbour slot: the settings of the neighbour in it, its table, the session that stands, and the code that ended
 /// that session. A contract says of a call: where the slot stood for a history of steps, it then stands for that
 /// history with one more step.
+#[derive(Drop)]
 pub struct PeerSlot {
     settings: Option<Settings>,
     table: Rib,
@@ -46,6 +52,62 @@ impl Model for PeerSlot {
 }
 
 impl PeerSlot {
+    /// A slot that no neighbour is in, with an empty table.
+    pub fn vacant(table: Rib) -> PeerSlot
+        requires { table ≡ empty table.side }
+        ensures stands { Stands [] result }
+        ensures vacated { (steps : List Step) → StandsWithout (Vacated ∷ steps) result }
+        ensures closed { live_caps result ≡ None }
+    {
+        PeerSlot {
+            settings: None,
+            table,
+            session: None,
+            reset: None,
+        }
+    }
+
+    /// A slot in which a neighbour is placed with its static routes, in an empty table that sends by its settings. They
+    /// are within the limits, and their next hops are of their keys' families.
+    pub fn placed(
+        mut table: Rib,
+        settings: Settings,
+        statics: &[StaticRoute],
+    ) -> Result<PeerSlot, NoMemory>
+        requires table { table ≡ empty (side_of settings) }
+        requires routes { AreRoutes (side_of settings) statics.now }
+        ensures stands { IfOk result
+            (λ slot. Stands (Placed settings (statics_of statics.now) ∷ []) slot) }
+        ensures placed { IfOk result
+            (λ slot. (steps : List Step) → StandsWithout (Placed settings (statics_of statics.now) ∷ steps) slot) }
+        ensures closed { IfOk result (λ slot. live_caps slot ≡ None) }
+    {
+        put_statics(&mut table, statics)?;
+        Ok(PeerSlot {
+            settings: Some(settings),
+            table,
+            session: None,
+            reset: None,
+        })
+    }
+
+    /// Gives a slot the neighbour and the table of another; the session stays as it is. No session is live in either.
+    pub fn exchange(&mut self, other: PeerSlot)
+        requires ended { live_caps self.old ≡ None }
+        requires fresh { live_caps other ≡ None }
+        ensures { (steps : List Step) (step : Step) → IsExchange step → Stands steps self.old
+            → StandsWithout (step ∷ steps) other → Stands (step ∷ steps) self.new }
+    {
+        let PeerSlot {
+            settings,
+            table,
+            session: _,
+            reset: _,
+        } = other;
+        self.settings = settings;
+        self.table = table;
+    }
+
     /// Stands keys and a value ready for `announce`, and answers the value's number. Nothing else changes, also where
     /// memory is wanting.
     pub fn prepare(&mut self, keys: &[Key], written: &Attrs) -> Result<usize, NoMemory>
@@ -94,7 +156,8 @@ impl PeerSlot {
 
     /// The session is to end with this code (RFC 4271, section 4.5). The first code stands until it is down.
     pub fn end(&mut self, code: Code)
-        ensures { (steps : List Step) → Stands steps self.old → Stands (Ended code ∷ steps) self.new }
+        ensures stands { (steps : List Step) → Stands steps self.old → Stands (Ended code ∷ steps) self.new }
+        ensures ended { live_caps self.new ≡ None }
     {
         self.reset = self.reset.or(Some(code));
         self.table.down();
