@@ -5,6 +5,7 @@ pub mod DifferLemmas
 pub mod ReadyLemmas
 pub mod MessageLemmas
 pub mod MarkerLemmas
+pub mod OpenLemmas
 pub mod CutLemmas
 pub mod StandsLemmas
 pub mod TableLemmas

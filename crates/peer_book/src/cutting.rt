@@ -50,6 +50,8 @@ fn is_open(table: &Rib) -> bool
 {
     match table.due() {
         Due::Empty => false,
-        Due::Gone(_) | Due::Here(..) | Due::End(_) => true,
+        Due::Gone(_) => true,
+        Due::Here(..) => true,
+        Due::End(_) => true,
     }
 }

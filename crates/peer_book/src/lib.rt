@@ -1,5 +1,5 @@
 //! One neighbour slot.
-#![tactic(auto)]
+#![tactic(none)]
 
 mod code;
 mod cut;

@@ -4,6 +4,10 @@ use Rattle.std.specs.Option.{option_map}
 use Rattle.adj_rib_out.specs.State.{value_at, route_of}
 use Rattle.adj_rib_out.specs.Calls.{Sets}
 use Rattle.peer_book.proofs.TableLemmas.{sets_next, keys_next, named_item, route_same}
+use Rattle.std.specs.Prelude.{is_some}
+use Rattle.std.proofs.lemmas.List.{take_all}
+use Rattle.peer_book.specs.Tables.{SetsEach, AreKeys}
+use Rattle.peer_book.proofs.TableLemmas.{sets_none}
 use Rattle.peer_book.proofs.table.set_each.Goals as goal
 
 pub set-requires-clause-key : goal.set-requires-clause-key
@@ -24,3 +28,19 @@ keys-preserved c =
       known = keys_next c.args.keys.now c.keys.key-index c.key-item.result c.keys-test.true c.key-item.is
           c.keys.invariant.known c.known.ensures;
     }
+
+pub keys-init : goal.keys-init
+keys-init c = record { sets = sets_none c.args.table.now _; known = λ key named. absurd cc }
+
+pub set-requires-clause-value : goal.set-requires-clause-value
+set-requires-clause-value c = ap is_some (c.keys.invariant.sets.ready.values c.args.number) ∙ c.requires.value
+
+pub returns-clause-sets : goal.returns-clause-sets
+returns-clause-sets c =
+    subst (λ ks. SetsEach c.args.table.now c.keys.table ks (option_map
+    (λ written. route_of c.args.table.now.side written c.args.owner) (value_at c.args.table.now c.args.number)))
+    (take_all c.keys.key-index c.args.keys.now c.keys-test.false) c.keys.invariant.sets
+
+pub returns-clause-keys : goal.returns-clause-keys
+returns-clause-keys c =
+    subst AreKeys (take_all c.keys.key-index c.args.keys.now c.keys-test.false) c.keys.invariant.known

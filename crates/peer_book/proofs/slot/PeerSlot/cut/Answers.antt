@@ -3,6 +3,13 @@ use Rattle.peer_book.specs.Cutting.{answered}
 use Rattle.peer_book.specs.Seen.{seen}
 use Rattle.peer_book.specs.Stands.{Stands}
 use Rattle.peer_book.proofs.CutLemmas.{cuts_routes, kept_cut, texts_of, cut_answer, cut_nothing, cut_message}
+use Rattle.std.specs.Prelude.{Option, None, is_some, if◌then◌else◌}
+use Rattle.std.specs.Option.{option_map}
+use Rattle.update_grammar.specs.Packed.{room}
+use Rattle.peer_history.specs.Steps.{Code}
+use Rattle.peer_history.specs.Cuts.{MayAnswer}
+use Rattle.peer_book.specs.Slot.{Slot}
+use Rattle.peer_book.proofs.CutLemmas.{cut_none, cut_reset}
 use Rattle.peer_book.proofs.slot.PeerSlot.cut.Goals as goal
 use Rattle.peer_book.proofs.slot.PeerSlot.cut.Goals.{in-None, in-Some-cut_next}
 
@@ -31,3 +38,25 @@ returns-clause-may c = λ steps stands.
           (cut_message texts steps slot new c.in-Some.caps bytes w.in-Some-cut_next.last c.self.invariant was
           c.in-Some.is c.in_default-reset.is w.in-Some-cut_next.ensures.cuts)
     ]
+
+pub returns-in_default-clause-may : goal.returns-in_default-clause-may
+returns-in_default-clause-may c = λ steps stands.
+    cut_none steps (seen c.self.inside) (subst (Stands steps) (sym c.self.view_is) stands) c.in_default.is
+
+pub returns-in-Some-reset-clause-may : goal.returns-in-Some-reset-clause-may
+returns-in-Some-reset-clause-may c = λ steps stands.
+    cut_reset steps (seen c.self.inside) c.in-Some.caps c.in-Some-reset.code
+    (subst (Stands steps) (sym c.self.view_is) stands) c.in-Some.is c.in-Some-reset.is
+
+pub cut_next-requires-clause-sound : goal.cut_next-requires-clause-sound
+cut_next-requires-clause-sound c = c.self.invariant.table
+
+pub cut_next-requires-clause-session : goal.cut_next-requires-clause-session
+cut_next-requires-clause-session c =
+    c.self.invariant.session
+    ∙ ap (λ (code : Option Code). if is_some code then None else c.self.inside.session) c.in_default-reset.is
+    ∙ c.in-Some.is
+
+pub cut_next-requires-clause-room : goal.cut_next-requires-clause-room
+cut_next-requires-clause-room c =
+    c.requires.room c.in-Some.caps (ap (λ (s : Slot). s.session) (sym c.self.view_is) ∙ c.in-Some.is)
