@@ -19,7 +19,7 @@ use Rattle.adj_rib_out.specs.declared.entry.Owner.{Owner}
 use Rattle.adj_rib_out.specs.State.{State, Session, Route, Item, route_at, told_at, value_at, route_of}
 use Rattle.adj_rib_out.specs.Batch.{AreOnce}
 use Rattle.adj_rib_out.specs.Calls.{again, fresh, KeepsRoutes, KeepsSession, KeepsBatch, Restarts, Refreshes}
-use Rattle.adj_rib_out.specs.Calls.{Readies, ReadiesSome}
+use Rattle.adj_rib_out.specs.Calls.{Readies, ReadiesSome, Trims}
 use Rattle.peer_history.specs.Keys.{is_named}
 use Rattle.peer_history.specs.Steps.{Code}
 use Rattle.peer_book.specs.Slot.{Slot, live_caps, IsSayable, IsSound, IsKept, IsRoutable}
@@ -80,6 +80,9 @@ calm_ready old new keys written (Ok number) ok err =
     record { routes = ok.routes; session = ok.session; batch = ok.batch }
 calm_ready old new keys written (Err fault) ok err =
     record { routes = err.routes; session = err.session; batch = err.batch }
+
+pub calm_trims : (old new : State) → Trims old new → IsCalm old new
+calm_trims old new trims = record { routes = trims.routes; session = trims.session; batch = trims.batch }
 
 pub calm_failed : (old new : State) (keys : List Key) → ReadiesSome old new keys → IsCalm old new
 calm_failed old new keys some = record { routes = some.routes; session = some.session; batch = some.batch }

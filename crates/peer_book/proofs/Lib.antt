@@ -10,3 +10,4 @@ pub mod CutLemmas
 pub mod StandsLemmas
 pub mod TableLemmas
 pub mod StaticsLemmas
+pub mod ExchangeLemmas

@@ -14,7 +14,7 @@ use Rattle.route_values.proofs.KeyLemmas.{same_key_is}
 use Rattle.batch_cutter.specs.Heads.{IsRoute}
 use Rattle.config_model.specs.declared.sections.StaticRoute.{StaticRoute}
 use Rattle.adj_rib_out.specs.declared.entry.Owner.TheVariants as keeper
-use Rattle.adj_rib_out.specs.State.{State, Route, route_at, value_at, route_of}
+use Rattle.adj_rib_out.specs.State.{State, Route, is_ready, route_at, value_at, route_of}
 use Rattle.adj_rib_out.specs.Calls.{Readies}
 use Rattle.peer_history.specs.Keys.{is_named}
 use Rattle.peer_history.specs.Steps.{Static}
@@ -23,7 +23,7 @@ use Rattle.peer_history.specs.Table as history
 use Rattle.peer_book.specs.Slot.{IsRoutable, IsSound}
 use Rattle.peer_book.specs.Stands.{asked}
 use Rattle.peer_book.specs.Statics.{static_of, statics_of, AreRoutes, PutsStatics}
-use Rattle.peer_book.specs.Tables.{SetsEach, AreKeys}
+use Rattle.peer_book.specs.Tables.{SetsEach, AreKeys, AreReady}
 use Rattle.peer_book.proofs.KeptLemmas.{IsCalm, FitsEach, sound_calm, sound_sets}
 
 pub calm_readies : (old mid : State) (keys : List Key) (written : Attrs) (number : ℕ)
@@ -32,7 +32,7 @@ calm_readies old mid keys written number ready =
     record { routes = ready.routes; session = ready.session; batch = ready.batch }
 
 -- the value that stands ready is the one that was asked for
-ready_value : (old mid : State) (keys : List Key) (written : Attrs) (number : ℕ)
+pub ready_value : (old mid : State) (keys : List Key) (written : Attrs) (number : ℕ)
     → Readies old mid keys written number → value_at mid number ≡ Some written
 ready_value old mid keys written number ready =
     ready.value number ∙ ap (λ b. if b then Some written else value_at old number) (eq-eqb number number refl)
@@ -108,6 +108,46 @@ module _ (old mid new : State) (key : Key) (written : Attrs) (number : ℕ)
   sound_put sound are route =
       sound_sets mid new (key ∷ []) _
       (sound_calm old mid sound (calm_readies old mid (key ∷ []) written number ready)) sets (fits_put are route)
+
+-- a key that has a route already
+some_at : {A B : Type 0} (f : A → B) (o : Option A) (b : Bool) (r : Option B) → is_some o ≡ not b → b ≡ false
+    → option_map f o ≡ r → is_some r ≡ true
+some_at f None b r is so at = absurd (let no_way : false ≡ true = is ∙ ap not so in cc)
+some_at f (Some a) b r is so at = ap is_some (sym at)
+
+or_some : {A : Type 0} (o other : Option A) → is_some o ≡ true → o ≡ option_or o other
+or_some None other h = cc
+or_some (Some a) other h = refl
+
+some_asked : (route : Option Route) → is_some route ≡ true → is_some (option_map asked route) ≡ true
+some_asked None h = h
+some_asked (Some route) h = refl
+
+pub put_there : {A : Type 0} (f : A → Route) (old mid : State) (key : Key) (written : Attrs) (number : ℕ)
+    (found : Option A) (free : Bool) → Readies old mid (key ∷ []) written number → is_some found ≡ not free → free ≡ false
+    → option_map f found ≡ route_at mid key → PutsStatics old mid (record { key = key; attrs = written } ∷ [])
+put_there f old mid key written number found free ready is so at = record {
+  side = ready.routes.side;
+  routes = λ k. ap (option_map asked) (ready.routes.routes k)
+      ∙ elim (same_key key k) as (λ b. same_key key k ≡ b → option_map asked (route_at old k)
+      ≡ option_or (option_map asked (route_at old k))
+      (if b then Some (record { attrs = written; owner = history.Configuration }) else None)) [
+        | true ↦ λ same.
+            let there : is_some (route_at old k) ≡ true =
+            ap is_some (sym (ready.routes.routes k) ∙ ap (route_at mid) (sym (same_key_is key k same)))
+            ∙ some_at f found free (route_at mid key) is so at in
+            or_some (option_map asked (route_at old k)) _ (some_asked (route_at old k) there)
+        | false ↦ λ other. or_none (option_map asked (route_at old k))
+      ] refl;
+  session = ready.session;
+  batch = ready.batch;
+}
+
+-- the key stands ready
+pub key_ready : (old mid : State) (key : Key) (written : Attrs) (number : ℕ) → Readies old mid (key ∷ []) written number
+    → AreReady mid (key ∷ [])
+key_ready old mid key written number ready k named =
+    ready.keys k ∙ ap (λ b. b || is_ready old k) named
 
 -- ---- several routes
 

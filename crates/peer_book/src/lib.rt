@@ -1,6 +1,7 @@
 //! One neighbour slot.
-#![tactic(none)]
+#![tactic(auto)]
 
+mod asking;
 mod code;
 mod cut;
 mod cutting;

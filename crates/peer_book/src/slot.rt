@@ -5,7 +5,7 @@ ghost use Rattle.route_values.specs.declared.attrs.Attrs.{Attrs as Written};
 ghost use Rattle.route_values.specs.Caps.{Caps as Carried};
 ghost use Rattle.update_grammar.specs.Packed.{room};
 ghost use Rattle.adj_rib_out.specs.State.{value_at};
-ghost use Rattle.adj_rib_out.specs.Calls.{empty, Readies, ReadiesSome};
+ghost use Rattle.adj_rib_out.specs.Calls.{empty, Readies, ReadiesSome, Trims};
 ghost use Rattle.peer_history.specs.Cuts.{MayAnswer};
 ghost use Rattle.peer_history.specs.Steps.{Step};
 ghost use Rattle.peer_history.specs.Steps.Step.{Announced, Withdrawn, Placed, Vacated, Up, Down, Ended, Refreshed};
@@ -33,8 +33,8 @@ use update_grammar::{reading_is_spelling, written_is_spelled};
 /// history with one more step.
 #[derive(Drop)]
 pub struct PeerSlot {
-    settings: Option<Settings>,
-    table: Rib,
+    pub(crate) settings: Option<Settings>,
+    pub(crate) table: Rib,
     session: Option<Caps>,
     reset: Option<Code>,
 }
@@ -117,6 +117,14 @@ impl PeerSlot {
         ensures stands { (steps : List Step) → Stands steps self.old → Stands steps self.new }
     {
         self.table.ready(keys, written)
+    }
+
+    /// Takes out what stands ready and isn't needed.
+    pub fn trim(&mut self)
+        ensures trimmed { Trims self.old.table self.new.table }
+        ensures stands { (steps : List Step) → Stands steps self.old → Stands steps self.new }
+    {
+        self.table.trim();
     }
 
     /// A helper announces routes of these keys with the value of this number, which all stand ready. It takes no

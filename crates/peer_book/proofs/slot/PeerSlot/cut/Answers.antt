@@ -41,12 +41,13 @@ returns-clause-may c = λ steps stands.
 
 pub returns-in_default-clause-may : goal.returns-in_default-clause-may
 returns-in_default-clause-may c = λ steps stands.
-    cut_none steps (seen c.self.inside) (subst (Stands steps) (sym c.self.view_is) stands) c.in_default.is
+    cut_none steps c.args.self.now stands (ap (λ (s : Slot). s.session) (sym c.self.view_is) ∙ c.in_default.is)
 
 pub returns-in-Some-reset-clause-may : goal.returns-in-Some-reset-clause-may
 returns-in-Some-reset-clause-may c = λ steps stands.
-    cut_reset steps (seen c.self.inside) c.in-Some.caps c.in-Some-reset.code
-    (subst (Stands steps) (sym c.self.view_is) stands) c.in-Some.is c.in-Some-reset.is
+    cut_reset steps c.args.self.now c.in-Some.caps c.in-Some-reset.code stands
+    (ap (λ (s : Slot). s.session) (sym c.self.view_is) ∙ c.in-Some.is)
+    (ap (λ (s : Slot). s.reset) (sym c.self.view_is) ∙ c.in-Some-reset.is)
 
 pub cut_next-requires-clause-sound : goal.cut_next-requires-clause-sound
 cut_next-requires-clause-sound c = c.self.invariant.table

@@ -1,0 +1,136 @@
+-- Slots that exchange their neighbours.
+use Rattle.std.proofs.Common.{◌≡◌, Bool, true, false, List, [], ◌∷◌, Some, None, refl, sym, ap, ◌∙◌, subst}
+use Rattle.std.specs.Prelude.{Option, IsSome, is_some, if◌then◌else◌}
+use Rattle.std.specs.Option.{option_map, option_or}
+use Rattle.std.specs.List.{AllByRecursion}
+use Rattle.route_values.specs.declared.key.Key.{Key}
+use Rattle.route_values.specs.declared.settings.Settings.{Settings}
+use Rattle.route_values.specs.declared.settings.Side.{Side}
+use Rattle.route_values.specs.Caps.{Caps}
+use Rattle.route_values.specs.Settings.{side_of}
+use Rattle.adj_rib_out.specs.State.{State, Session, Route, route_at}
+use Rattle.adj_rib_out.specs.Calls.{empty}
+use Rattle.peer_history.specs.Sessions.{session, reset, live}
+use Rattle.peer_history.specs.Steps.{Step, Static, Code}
+use Rattle.peer_history.specs.Steps.Step.{Announced, Withdrawn, Cleared, Placed, Kept, Vacated, Up, Down, Ended}
+use Rattle.peer_history.specs.Steps.Step.{Refreshed, Cut}
+use Rattle.peer_history.specs.Table.{static_at}
+use Rattle.peer_book.specs.Slot.{Slot, live_caps, IsSound, IsKept}
+use Rattle.peer_book.specs.Stands.{asked, Stands}
+use Rattle.peer_book.specs.Statics.{PutsStatics, StandsWithout, IsExchange}
+
+-- an empty table
+pub sound_empty : (table : State) (side : Side) → table ≡ empty side → IsSound table
+sound_empty table side is = subst IsSound (sym is) (record {
+  routes = λ key route at. absurd (let none : ◌≡◌ {A = Option Route} None (Some route) = at in cc);
+  sent = λ key route at. absurd (let none : ◌≡◌ {A = Option Route} None (Some route) = at in cc);
+  told = λ session key at there. absurd (let none : ◌≡◌ {A = Option Session} None (Some session) = at in cc);
+  left = λ session at. tt;
+  once = tt;
+})
+
+-- the step changes no session
+pub exchange_same : (step : Step) (steps : List Step) → IsExchange step
+    → (session (step ∷ steps) ≡ session steps) × (reset (step ∷ steps) ≡ reset steps)
+exchange_same (Placed settings statics) steps is = (refl, refl)
+exchange_same (Kept settings statics) steps is = (refl, refl)
+exchange_same Vacated steps is = (refl, refl)
+exchange_same (Announced keys attrs) steps is = absurd is
+exchange_same (Withdrawn keys) steps is = absurd is
+exchange_same Cleared steps is = absurd is
+exchange_same (Up caps) steps is = absurd is
+exchange_same Down steps is = absurd is
+exchange_same (Ended code) steps is = absurd is
+exchange_same (Refreshed family) steps is = absurd is
+exchange_same (Cut answer) steps is = absurd is
+
+-- a slot of which no session is live
+abbrev pub exchanged : Slot → Slot → Slot
+exchanged slot other =
+    record { settings = other.settings; table = other.table; session = slot.session; reset = slot.reset }
+
+pub kept_exchange : (slot other : Slot) → IsKept other → live_caps slot ≡ None → live_caps other ≡ None
+    → IsKept (exchanged slot other)
+kept_exchange slot other kept ended fresh = record {
+  session = kept.session ∙ fresh ∙ sym ended;
+  side = kept.side;
+  vacant = kept.vacant;
+  table = kept.table;
+}
+
+none_live : (caps : Caps) (steps : List Step) (slot : Slot) → Stands steps slot → live_caps slot ≡ None
+    → live steps ≡ Some caps → ⊥
+none_live caps steps slot stands ended is =
+    let same : live steps ≡ None =
+    ap (λ (code : Option Code). if is_some code then None else session steps) (sym stands.reset)
+    ∙ ap (λ (up : Option Caps). if is_some slot.reset then None else up) (sym stands.session) ∙ ended in
+    let no_way : ◌≡◌ {A = Option Caps} None (Some caps) = sym same ∙ is in cc
+
+pub stands_exchange : (steps : List Step) (step : Step) (slot other : Slot) → IsExchange step → Stands steps slot
+    → StandsWithout (step ∷ steps) other → live_caps slot ≡ None → Stands (step ∷ steps) (exchanged slot other)
+stands_exchange steps step slot other is stands without ended =
+    let same = exchange_same step steps is in
+    record {
+      settings = without.settings;
+      routes = without.routes;
+      session = stands.session ∙ sym same.0;
+      reset = stands.reset ∙ sym same.1;
+      live = λ caps at. absurd (none_live caps steps slot stands ended
+          (ap (λ (code : Option Code). if is_some code then None else session steps) (sym same.1)
+          ∙ ap (λ (up : Option Caps). if is_some (reset (step ∷ steps)) then None else up) (sym same.0) ∙ at));
+    }
+
+-- ---- new slots
+
+abbrev pub new_slot : Option Settings → State → Slot
+new_slot settings table = record { settings = settings; table = table; session = None; reset = None }
+
+pub kept_vacant : (table : State) → table ≡ empty table.side → IsKept (new_slot None table)
+kept_vacant table is = record {
+  session = ap (λ (t : State). option_map (λ (s : Session). s.caps) t.session) is;
+  side = λ own at. absurd (let none : ◌≡◌ {A = Option Settings} None (Some own) = at in cc);
+  vacant = λ none key. ap (λ (t : State). route_at t key) is;
+  table = sound_empty table table.side is;
+}
+
+pub kept_placed : (settings : Settings) (table new : State) (statics : List Static) → table ≡ empty (side_of settings)
+    → PutsStatics table new statics → IsSound new → IsKept (new_slot (Some settings) new)
+kept_placed settings table new statics is puts sound = record {
+  session = ap (option_map (λ (s : Session). s.caps)) puts.session.session
+      ∙ ap (λ (t : State). option_map (λ (s : Session). s.caps) t.session) is;
+  side = λ own at. puts.side ∙ ap (λ (t : State). t.side) is ∙ placed_side settings own at;
+  vacant = λ none key. absurd (let some : ◌≡◌ {A = Option Settings} (Some settings) None = none in cc);
+  table = sound;
+}
+  where
+    placed_side : (settings own : Settings) → ◌≡◌ {A = Option Settings} (Some settings) (Some own)
+        → side_of settings ≡ side_of own
+    placed_side settings own at = ap (λ (o : Option Settings). elim o [ None ↦ side_of settings | Some s ↦ side_of s ]) at
+
+pub without_placed : (steps : List Step) (settings : Settings) (table new : State) (statics : List Static)
+    → table ≡ empty (side_of settings) → PutsStatics table new statics
+    → StandsWithout (Placed settings statics ∷ steps) (new_slot (Some settings) new)
+without_placed steps settings table new statics is puts = record {
+  settings = refl;
+  routes = λ key. puts.routes key
+      ∙ ap (λ (t : State). option_or (option_map asked (route_at t key)) (static_at statics key)) is;
+}
+
+pub stands_placed : (settings : Settings) (table new : State) (statics : List Static) → table ≡ empty (side_of settings)
+    → PutsStatics table new statics → Stands (Placed settings statics ∷ []) (new_slot (Some settings) new)
+stands_placed settings table new statics is puts = record {
+  settings = refl;
+  routes = (without_placed [] settings table new statics is puts).routes;
+  session = refl;
+  reset = refl;
+  live = λ caps at. absurd (let none : ◌≡◌ {A = Option Caps} None (Some caps) = at in cc);
+}
+
+pub stands_vacant : (table : State) → table ≡ empty table.side → Stands [] (new_slot None table)
+stands_vacant table is = record {
+  settings = refl;
+  routes = λ key. ap (λ (t : State). option_map asked (route_at t key)) is;
+  session = refl;
+  reset = refl;
+  live = λ caps at. absurd (let none : ◌≡◌ {A = Option Caps} None (Some caps) = at in cc);
+}
