@@ -1,9 +1,8 @@
 -- A slot from which a message is cut.
-use Rattle.std.proofs.Common.{◌≡◌, ℕ, ◌+◌, ◌<◌, ◌≤◌, Bool, true, false, not, List, [], ◌∷◌, ◌++◌, length, Some, None, refl}
-use Rattle.std.proofs.Common.{sym, ap, ◌∙◌, subst, arith, inl, inr}
-use Rattle.std.specs.Prelude.{◌↔◌, ◌⊎◌, Option, MatchOption, IsTrue, IsSome, is_some, if◌then◌else◌}
+use Rattle.std.proofs.Common.{◌≡◌, ℕ, ◌≤◌, Bool, true, false, not, List, [], ◌∷◌, ◌++◌, length, Some, None, refl}
+use Rattle.std.proofs.Common.{sym, ap, ◌∙◌, subst, inl, inr}
+use Rattle.std.specs.Prelude.{◌⊎◌, Option, MatchOption, is_some, if◌then◌else◌}
 use Rattle.std.specs.Option.{option_map}
-use Rattle.std.specs.List.{AllByRecursion}
 use Rattle.std.proofs.lemmas.Option.{same_Some}
 use Rattle.route_values.specs.declared.addr.Family.{Family}
 use Rattle.route_values.specs.declared.key.Key.{Key}
@@ -14,12 +13,12 @@ use Rattle.update_grammar.specs.Laws.{SpelledEffectsAreRead, HereIsNoMarker, Gon
 use Rattle.update_grammar.specs.Laws.{HereIsSpelled, GoneIsSpelled, EndIsSpelled}
 use Rattle.update_grammar.specs.Packed.{room}
 use Rattle.update_grammar.specs.Written.{written}
-use Rattle.batch_cutter.specs.Filling.{Fills, GoesOn, PassesEach, IsMadeOf, IsAlone}
+use Rattle.batch_cutter.specs.Filling.{Fills, GoesOn, PassesEach, IsMadeOf}
 use Rattle.batch_cutter.specs.Heads.{Fits}
 use Rattle.batch_cutter.specs.Items as batch
 use Rattle.batch_cutter.specs.Items.{keys_of, said_by, IsFor}
-use Rattle.adj_rib_out.specs.State.{State, Session, route_at, told_at}
-use Rattle.adj_rib_out.specs.Calls.{is_open, Freezes, KeepsRoutes, PassesDue}
+use Rattle.adj_rib_out.specs.State.{State, Session, route_at}
+use Rattle.adj_rib_out.specs.Calls.{is_open, KeepsRoutes, PassesDue}
 use Rattle.adj_rib_out.specs.Told.{items_left}
 use Rattle.peer_history.specs.Batches.{opened, first_cut, NothingLeft}
 use Rattle.peer_history.specs.Batches as history
@@ -90,10 +89,10 @@ made : (texts : Texts) (caps : Caps) (steps : List Step) (mid new : State) (byte
     → IsSound mid → Fills items_left Passing caps mid new bytes → Made caps steps new bytes
 made texts caps steps mid new bytes ready sound fills = elim (which fills.head) [
   | inl names ↦ record {
-      h = fills.head;
-      keys = keys_of fills.items;
-      is = said_keys texts caps steps mid new bytes ready sound fills names;
-    }
+    h = fills.head;
+    keys = keys_of fills.items;
+    is = said_keys texts caps steps mid new bytes ready sound fills names;
+  }
   | inr end ↦
       let message : IsMadeOf caps (head.End end.0) fills.items (items_left new) bytes =
       subst (λ h. IsMadeOf caps h fills.items (items_left new) bytes) end.1 fills.message in
@@ -126,19 +125,20 @@ module _ (caps : Caps) (steps : List Step) (mid new : State) (bytes : List ℕ) 
     spelled = said.spelled;
     due = said.due;
     packed = said.packed;
-    ends =
-        ((λ is. nothing_by caps (Cut (step.Message bytes false) ∷ steps) new said.leaves
-        (not_open (is_open new) (sym is ∙ ends))),
-        λ nothing. ends ∙ ap not (closed_by caps (Cut (step.Message bytes false) ∷ steps) new said.leaves nothing));
+    ends = (
+      (λ is. nothing_by caps (Cut (step.Message bytes false) ∷ steps) new said.leaves
+          (not_open (is_open new) (sym is ∙ ends))),
+      λ nothing. ends ∙ ap not (closed_by caps (Cut (step.Message bytes false) ∷ steps) new said.leaves nothing),
+    );
   }
 
   leaves_open : (start : List Step) → (if last then None else Some (first_cut steps)) ≡ Some start
       → LeavesBatch caps start (if last then [] else bytes ∷ history.batch steps) new
   leaves_open start = elim last as (λ l. (if l then None else Some (first_cut steps)) ≡ Some start
       → LeavesBatch caps start (if l then [] else bytes ∷ history.batch steps) new) [
-    | true ↦ λ at. absurd cc
-    | false ↦ λ at. subst (λ s. LeavesBatch caps s (bytes ∷ history.batch steps) new) (same_Some _ _ at) said.leaves
-  ]
+        | true ↦ λ at. absurd cc
+        | false ↦ λ at. subst (λ s. LeavesBatch caps s (bytes ∷ history.batch steps) new) (same_Some _ _ at) said.leaves
+      ]
 
   pub live_message : StandsLive caps (Cut (step.Message bytes last) ∷ steps) new
   live_message = record {
@@ -181,21 +181,23 @@ cut_message texts steps slot new caps bytes last kept stands up none cuts =
     let message = made texts caps steps cuts.mid new bytes ready sound cuts.fills in
     let same = passes_session cuts.fills.items cuts.mid new cuts.fills.passed in
     let before = ready_routes slot.table cuts.mid cuts.ready in
-    let behind = passes_routes cuts.fills.items cuts.mid new cuts.fills.passed in
-    ((caps, at, may_cut caps steps cuts.mid new bytes last message.h message.keys ready same message.is cuts.ends),
-    stands_cut steps slot new caps (step.Message bytes last) stands
-    (record { side = behind.side ∙ before.side; routes = λ key. behind.routes key ∙ before.routes key }) at refl refl
-    (live_message caps steps cuts.mid new bytes last message.h message.keys ready same message.is cuts.ends))
+    let behind = passes_routes cuts.fills.items cuts.mid new cuts.fills.passed in (
+      (caps, at, may_cut caps steps cuts.mid new bytes last message.h message.keys ready same message.is cuts.ends),
+      stands_cut steps slot new caps (step.Message bytes last) stands
+          (record { side = behind.side ∙ before.side; routes = λ key. behind.routes key ∙ before.routes key }) at refl refl
+          (live_message caps steps cuts.mid new bytes last message.h message.keys ready same message.is cuts.ends),
+    )
 
 pub cut_nothing : (steps : List Step) (slot : Slot) (new : State) (caps : Caps) → IsKept slot → Stands steps slot
     → slot.session ≡ Some caps → slot.reset ≡ None → CutsNothing slot.table new
     → MayAnswer steps step.Nothing × Stands (Cut step.Nothing ∷ steps) (slot_with slot new slot.session slot.reset)
 cut_nothing steps slot new caps kept stands up none cuts =
     let at = live_at steps slot caps stands up none in
-    let nothing = made_nothing caps steps slot new kept stands (stands.live caps at) cuts in
-    ((caps, at, nothing.closed, nothing.nothing),
-    stands_cut steps slot new caps step.Nothing stands (ready_routes slot.table new cuts.ready) at refl refl
-    nothing.live)
+    let nothing = made_nothing caps steps slot new kept stands (stands.live caps at) cuts in (
+      (caps, at, nothing.closed, nothing.nothing),
+      stands_cut steps slot new caps step.Nothing stands (ready_routes slot.table new cuts.ready) at refl refl
+          nothing.live,
+    )
 
 -- a cut that answers before the table is looked at
 same_live : (caps : Caps) (steps after : List Step) (state : State) → opened after ≡ opened steps
@@ -208,26 +210,32 @@ same_live caps steps after state opens cuts goes_on says stands =
 
 pub cut_none : (steps : List Step) (slot : Slot) → Stands steps slot → slot.session ≡ None
     → MayAnswer steps step.NoSession × Stands (Cut step.NoSession ∷ steps) slot
-cut_none steps slot stands none = (sym stands.session ∙ none, record {
-  settings = stands.settings;
-  routes = stands.routes;
-  session = stands.session;
-  reset = stands.reset;
-  live = λ caps is. same_live caps steps (Cut step.NoSession ∷ steps) slot.table refl refl refl (λ key. refl)
-      (stands.live caps is);
-})
+cut_none steps slot stands none = (
+  sym stands.session ∙ none,
+  record {
+    settings = stands.settings;
+    routes = stands.routes;
+    session = stands.session;
+    reset = stands.reset;
+    live = λ caps is. same_live caps steps (Cut step.NoSession ∷ steps) slot.table refl refl refl (λ key. refl)
+        (stands.live caps is);
+  },
+)
 
 pub cut_reset : (steps : List Step) (slot : Slot) (caps : Caps) (code : Code) → Stands steps slot
     → slot.session ≡ Some caps → slot.reset ≡ Some code
     → MayAnswer steps (step.Reset code) × Stands (Cut (step.Reset code) ∷ steps) slot
-cut_reset steps slot caps code stands up is = ((ap is_some (sym stands.session ∙ up), sym stands.reset ∙ is), record {
-  settings = stands.settings;
-  routes = stands.routes;
-  session = stands.session;
-  reset = stands.reset;
-  live = λ other at. same_live other steps (Cut (step.Reset code) ∷ steps) slot.table refl refl refl (λ key. refl)
-      (stands.live other at);
-})
+cut_reset steps slot caps code stands up is = (
+  (ap is_some (sym stands.session ∙ up), sym stands.reset ∙ is),
+  record {
+    settings = stands.settings;
+    routes = stands.routes;
+    session = stands.session;
+    reset = stands.reset;
+    live = λ other at. same_live other steps (Cut (step.Reset code) ∷ steps) slot.table refl refl refl (λ key. refl)
+        (stands.live other at);
+  },
+)
 
 -- what a cut keeps, whatever it answers
 pub cuts_routes : (caps : Caps) (old new : State) (bytes : List ℕ) (result : Option Bool)

@@ -1,16 +1,12 @@
 -- What is the same doesn't differ.
-use Rattle.std.proofs.Common.{◌≡◌, ℕ, Bool, true, false, not, List, [], ◌∷◌, Some, None, refl, sym, ap, ◌∙◌, subst, eq-eqb}
-use Rattle.std.specs.Prelude.{◌&&◌, nat_eq, Option}
+use Rattle.std.proofs.Common.{◌≡◌, Bool, true, false, not, [], ◌∷◌, Some, None, refl, ap, ◌∙◌, eq-eqb}
+use Rattle.std.specs.Prelude.{nat_eq, Option}
 use Rattle.std.specs.Bool.{beq}
 use Rattle.std.specs.Cmp.Lexicographic.{pointwise}
 use Rattle.std.specs.Option.{option_eq}
 use Rattle.std.proofs.lemmas.Bool.{and_from, both_ways}
-use Rattle.route_values.specs.declared.attrs.Aggregator.{Aggregator}
-use Rattle.route_values.specs.declared.attrs.Large.{Large}
-use Rattle.route_values.specs.declared.attrs.Origin.{Origin}
 use Rattle.route_values.specs.declared.attrs.Origin.TheVariants.{Igp, Egp, Incomplete}
 use Rattle.route_values.specs.declared.attrs.WireAttrs.{WireAttrs}
-use Rattle.route_values.specs.declared.path.Segment.{Segment}
 use Rattle.route_values.specs.Sent.{same_large}
 use Rattle.route_values.proofs.KeyLemmas.{same_addr-self}
 use Rattle.peer_history.specs.Same.{same_origin, same_segment, same_aggregator, same_needed, same_single}

@@ -1,5 +1,5 @@
 -- What holds of a slot holds behind each call of its table.
-use Rattle.std.proofs.Common.{◌≡◌, ℕ, Bool, true, false, List, [], ◌∷◌, Some, None, refl, sym, ap, ◌∙◌, subst}
+use Rattle.std.proofs.Common.{◌≡◌, ℕ, Bool, true, false, List, Some, None, refl, sym, ap, ◌∙◌, subst}
 use Rattle.std.specs.Prelude.{Option, IsSome, is_some, if◌then◌else◌, Result, Ok, Err, IfOk, OnErr}
 use Rattle.std.specs.Option.{option_map, option_or}
 use Rattle.std.specs.List.{AllByRecursion}
@@ -16,9 +16,9 @@ use Rattle.update_grammar.specs.Written.{IsCarried}
 use Rattle.route_values.specs.Settings.{side_of}
 use Rattle.batch_cutter.specs.Heads.{IsRoute}
 use Rattle.adj_rib_out.specs.declared.entry.Owner.{Owner}
-use Rattle.adj_rib_out.specs.State.{State, Session, Route, Item, route_at, told_at, value_at, route_of}
+use Rattle.adj_rib_out.specs.State.{State, Session, Route, route_at, told_at, value_at, route_of}
 use Rattle.adj_rib_out.specs.Batch.{AreOnce}
-use Rattle.adj_rib_out.specs.Calls.{again, fresh, KeepsRoutes, KeepsSession, KeepsBatch, Restarts, Refreshes}
+use Rattle.adj_rib_out.specs.Calls.{again, KeepsRoutes, KeepsSession, KeepsBatch, Restarts, Refreshes}
 use Rattle.adj_rib_out.specs.Calls.{Readies, ReadiesSome, Trims}
 use Rattle.peer_history.specs.Keys.{is_named}
 use Rattle.peer_history.specs.Steps.{Code}
@@ -224,11 +224,13 @@ value_fits slot keys number owner kept can are key one named is =
     let made : Some (route_of slot.table.side can.written owner) ≡ Some one =
     sym (ap (option_map (λ written. route_of slot.table.side written owner)) can.value) ∙ is in
     let same : route_of slot.table.side can.written owner ≡ one = same_Some _ _ made in
-    subst (λ (r : Route). IsRoutable key r.attrs × (r.attrs ≡ sent r.written slot.table.side)) same
-    (record {
-      is_key = are key named;
-      route = subst (λ side. IsRoute (family_of_key key) (sent can.written side)) (sym side) (can.routes key named);
-    }, refl)
+    subst (λ (r : Route). IsRoutable key r.attrs × (r.attrs ≡ sent r.written slot.table.side)) same (
+      record {
+        is_key = are key named;
+        route = subst (λ side. IsRoute (family_of_key key) (sent can.written side)) (sym side) (can.routes key named);
+      },
+      refl,
+    )
 
 pub placed_not : (settings : Option Settings) (own : Settings) → settings ≡ Some own → settings ≡ None → ⊥
 placed_not None own is none = cc

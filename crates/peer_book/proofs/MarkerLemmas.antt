@@ -1,7 +1,7 @@
 -- A marker that was made of what is left is one that may be cut.
-use Rattle.std.proofs.Common.{◌≡◌, ℕ, ◌+◌, ◌<◌, ◌≤◌, Bool, true, false, not, List, [], ◌∷◌, ◌++◌, length, drop, Some, None}
+use Rattle.std.proofs.Common.{◌≡◌, ℕ, Bool, true, false, not, List, [], ◌∷◌, ◌++◌, length, drop, Some, None}
 use Rattle.std.proofs.Common.{refl, sym, ap, ◌∙◌, subst, arith}
-use Rattle.std.specs.Prelude.{◌&&◌, ◌||◌, map, Option, IsTrue, if◌then◌else◌}
+use Rattle.std.specs.Prelude.{◌&&◌, ◌||◌, map, Option, if◌then◌else◌}
 use Rattle.std.specs.List.{AllByRecursion}
 use Rattle.route_values.specs.declared.addr.Family.{Family}
 use Rattle.route_values.specs.declared.addr.Family.TheVariants.{Ipv4, Ipv6}
@@ -14,25 +14,24 @@ use Rattle.update_grammar.specs.Net.{net}
 use Rattle.update_grammar.specs.Packed.{named_by}
 use Rattle.update_grammar.specs.Update.{Spells}
 use Rattle.update_grammar.specs.Written.{written, body_of}
-use Rattle.batch_cutter.specs.Filling.{Fills, GoesOn, PassesEach, IsMadeOf, IsAlone}
+use Rattle.batch_cutter.specs.Filling.{GoesOn}
 use Rattle.batch_cutter.specs.Heads.{Fits}
 use Rattle.batch_cutter.specs.Items as batch
 use Rattle.batch_cutter.specs.Items.{keys_of, said_by, IsFor}
-use Rattle.adj_rib_out.specs.State.{State, Item, told_at}
+use Rattle.adj_rib_out.specs.State.{State, Item}
 use Rattle.adj_rib_out.specs.Batch as table
-use Rattle.adj_rib_out.specs.Calls.{Passes, PassesDue, PassesMarker}
+use Rattle.adj_rib_out.specs.Calls.{PassesDue, PassesMarker}
 use Rattle.adj_rib_out.specs.Told.{items_left, batch_item, item_by}
 use Rattle.peer_history.specs.Batches.{first_cut, batch, is_left, is_owed, is_marker_owed, is_marker_left}
 use Rattle.peer_history.specs.Cuts.{EndsFamily}
 use Rattle.peer_history.specs.Keys.{is_named}
-use Rattle.peer_history.specs.Messages.{said, said_each, mentions, marks, is_marked, meant}
+use Rattle.peer_history.specs.Messages.{said, said_each, mentions, marks, is_marked}
 use Rattle.peer_history.specs.Same.{same_family}
 use Rattle.peer_history.specs.Sessions.{session_effects}
 use Rattle.peer_history.specs.Steps.{Step}
 use Rattle.peer_history.proofs.MessageLemmas.{net_meant, said_is, written_marks}
-use Rattle.peer_book.specs.Stands.{families_where, LeavesBatch}
+use Rattle.peer_book.specs.Stands.{LeavesBatch}
 use Rattle.peer_book.proofs.MessageLemmas.{Texts, IsSaid}
-use Rattle.peer_book.proofs.PassLemmas.{Passing}
 use Rattle.peer_book.proofs.ReadyLemmas.{IsReady, families_same}
 
 -- ---- the first of two families

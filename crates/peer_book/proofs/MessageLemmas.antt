@@ -1,7 +1,7 @@
 -- A message that was made of the items that are left is one that may be cut.
-use Rattle.std.proofs.Common.{◌≡◌, ℕ, ◌+◌, ◌<◌, ◌≤◌, Bool, true, false, not, List, [], ◌∷◌, ◌++◌, length, Some, None, refl}
+use Rattle.std.proofs.Common.{◌≡◌, ℕ, ◌<◌, ◌≤◌, Bool, true, false, not, List, [], ◌∷◌, ◌++◌, length, Some, None, refl}
 use Rattle.std.proofs.Common.{sym, ap, ◌∙◌, subst, arith}
-use Rattle.std.specs.Prelude.{◌^◌, ◌&&◌, ◌||◌, map, Option, if◌then◌else◌}
+use Rattle.std.specs.Prelude.{◌&&◌, ◌||◌, map, Option, if◌then◌else◌}
 use Rattle.std.specs.List.{AllByRecursion}
 use Rattle.route_values.specs.declared.addr.Family.{Family}
 use Rattle.route_values.specs.declared.attrs.WireAttrs.{WireAttrs}
@@ -14,13 +14,12 @@ use Rattle.update_grammar.specs.Laws.{HereIsSpelled, GoneIsSpelled, EndIsSpelled
 use Rattle.update_grammar.specs.Net.{net}
 use Rattle.update_grammar.specs.Packed.{named_by, room, IsPackedBehind}
 use Rattle.update_grammar.specs.Update.{Spells}
-use Rattle.update_grammar.specs.Written.{written, body_of, IsSendable, IsCarried}
+use Rattle.update_grammar.specs.Written.{written, body_of, IsCarried}
 use Rattle.batch_cutter.specs.Filling.{Fills, GoesOn}
-use Rattle.batch_cutter.specs.Grouped.{MayFollow}
 use Rattle.batch_cutter.specs.Heads.{IsRoute, Fits, family_of_head}
 use Rattle.batch_cutter.specs.Items as batch
 use Rattle.batch_cutter.specs.Items.{keys_of, said_by, IsFor}
-use Rattle.adj_rib_out.specs.State.{State, Item, told_at}
+use Rattle.adj_rib_out.specs.State.{State, told_at}
 use Rattle.adj_rib_out.specs.Batch.{attrs_said, item_at}
 use Rattle.adj_rib_out.specs.Batch as table
 use Rattle.adj_rib_out.specs.Told.{items_left}
@@ -28,7 +27,7 @@ use Rattle.peer_history.specs.Batches.{first_cut, batch, is_left, is_owed, is_ma
 use Rattle.peer_history.specs.Cuts.{AreLeft, IsDue}
 use Rattle.peer_history.specs.Keys.{is_named}
 use Rattle.peer_history.specs.Messages.{said, said_each, mentions, marks, is_marked, meant, value_given}
-use Rattle.peer_history.specs.Sessions.{session_effects, peer}
+use Rattle.peer_history.specs.Sessions.{session_effects}
 use Rattle.peer_history.specs.Steps.{Step}
 use Rattle.peer_history.specs.Steps.Step.{Cut}
 use Rattle.peer_history.specs.Steps.Answer.{Message}

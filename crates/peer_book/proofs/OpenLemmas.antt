@@ -1,6 +1,6 @@
 -- Whether something is left of a batch, by what is due.
-use Rattle.std.proofs.Common.{◌≡◌, Bool, true, false, List, [], ◌∷◌, ◌++◌, Some, None, refl, sym, ap, ◌∙◌, subst}
-use Rattle.std.specs.Prelude.{◌↔◌, map, IsTrue, IsSome, is_some}
+use Rattle.std.proofs.Common.{◌≡◌, Bool, true, false, List, [], ◌∷◌, ◌++◌, refl, sym, ap, ◌∙◌}
+use Rattle.std.specs.Prelude.{◌↔◌, map, IsTrue, is_some}
 use Rattle.std.specs.Bool.{OnFalse}
 use Rattle.route_values.specs.declared.addr.Family.{Family}
 use Rattle.batch_cutter.specs.Items as batch

@@ -1,7 +1,7 @@
 -- What the items of a message leave of the table.
-use Rattle.std.proofs.Common.{◌≡◌, ℕ, ◌+◌, ◌<◌, Bool, true, false, not, List, [], ◌∷◌, ◌++◌, length, drop, Some, None, refl}
-use Rattle.std.proofs.Common.{sym, ap, ◌∙◌, subst, inl, inr, arith}
-use Rattle.std.specs.Prelude.{◌&&◌, ◌||◌, map, Option, IsSome, IsTrue, is_some, if◌then◌else◌}
+use Rattle.std.proofs.Common.{◌≡◌, ℕ, Bool, true, false, not, List, [], ◌∷◌, ◌++◌, drop, Some, None, refl}
+use Rattle.std.proofs.Common.{sym, ap, ◌∙◌, subst}
+use Rattle.std.specs.Prelude.{◌&&◌, ◌||◌, map, Option, is_some, if◌then◌else◌}
 use Rattle.std.specs.Bool.{OnTrue}
 use Rattle.std.specs.Option.{option_map}
 use Rattle.std.specs.List.{AllByRecursion}
@@ -14,18 +14,17 @@ use Rattle.route_values.proofs.KeyLemmas.{same_key_is, same_key-self}
 use Rattle.update_grammar.specs.Head.{Head}
 use Rattle.update_grammar.specs.Head as head
 use Rattle.update_grammar.specs.Written.{IsCarried}
-use Rattle.batch_cutter.specs.Heads.{family_of_head}
 use Rattle.batch_cutter.specs.Items as batch
 use Rattle.batch_cutter.specs.Items.{keys_of, IsFor}
 use Rattle.batch_cutter.specs.Filling.{CanFill, PassesEach}
 use Rattle.adj_rib_out.specs.State.{State, Session, Item, told_at}
 use Rattle.adj_rib_out.specs.Batch.{attrs_said, item_at, is_left, AreOnce}
-use Rattle.adj_rib_out.specs.Calls.{KeepsRoutes, Passes, PassesDue, PassesItem, PassesMarker}
+use Rattle.adj_rib_out.specs.Calls.{KeepsRoutes, Passes, PassesDue, PassesItem}
 use Rattle.adj_rib_out.specs.Told.{items_left, batch_item, item_by}
 use Rattle.peer_history.specs.Keys.{is_named, AreSomeOf}
 use Rattle.peer_history.specs.Messages.{value_given}
 use Rattle.peer_book.specs.Slot.{SaysRoute, IsSayable, IsSound}
-use Rattle.peer_book.proofs.SoundLemmas.{item_first, item_later, item_is_left}
+use Rattle.peer_book.proofs.SoundLemmas.{item_first, item_later}
 
 -- what is ensured where the answer is true
 pub told_true : {P : Type 0} (result : Bool) → result ≡ true → OnTrue result P → P
@@ -173,9 +172,11 @@ pass_one i is old new at once passes =
 pub some_of-same : (keys : List Key) (p q : Key → Bool) → ((key : Key) → p key ≡ q key) → AreSomeOf p keys
     → AreSomeOf q keys
 some_of-same [] p q same some = tt
-some_of-same (k ∷ ks) p q same some =
-    (sym (same k) ∙ some.0, some_of-same ks (λ key. p key && not (same_key k key)) (λ key. q key && not (same_key k key))
-    (λ key. ap (λ b. b && not (same_key k key)) (same key)) some.1)
+some_of-same (k ∷ ks) p q same some = (
+  sym (same k) ∙ some.0,
+  some_of-same ks (λ key. p key && not (same_key k key)) (λ key. q key && not (same_key k key))
+      (λ key. ap (λ b. b && not (same_key k key)) (same key)) some.1,
+)
 
 pub all-map : {A : Type 0} (P Q : A → Type 0) (items : List A) → ((item : A) → P item → Q item)
     → AllByRecursion P items → AllByRecursion Q items
@@ -204,10 +205,16 @@ pass_then old mid new key keys value one rest = record {
       ∙ left_both (is_left old.left k) (same_key key k) (is_named keys k);
   says = λ k item is. one.says k item (rest.says k item is);
   markers = rest.markers ∙ one.markers;
-  named = (one.named.0, some_of-same keys (is_left mid.left) (λ k. is_left old.left k && not (same_key key k))
-      (λ k. one.left k ∙ ap (λ b. is_left old.left k && not b) (sym (or_none (same_key key k)))) rest.named);
-  values = (one.values.0, all-map (HasValue mid value) (HasValue old value) keys
-      (λ k has. (has.0, one.says k has.0 has.1, has.2)) rest.values);
+  named = (
+    one.named.0,
+    some_of-same keys (is_left mid.left) (λ k. is_left old.left k && not (same_key key k))
+        (λ k. one.left k ∙ ap (λ b. is_left old.left k && not b) (sym (or_none (same_key key k)))) rest.named,
+  );
+  values = (
+    one.values.0,
+    all-map (HasValue mid value) (HasValue old value) keys
+        (λ k has. (has.0, one.says k has.0 has.1, has.2)) rest.values,
+  );
   once = rest.once;
 }
 

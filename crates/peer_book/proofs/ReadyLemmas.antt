@@ -1,9 +1,8 @@
 -- The table right before a message: a batch is open in it, whether it was before or began just now.
-use Rattle.std.proofs.Common.{◌≡◌, ℕ, Bool, true, false, not, List, [], ◌∷◌, Some, None, refl, sym, ap, ◌∙◌, subst, inl, inr}
-use Rattle.std.specs.Prelude.{◌&&◌, ◌||◌, ◌⊎◌, ◌↔◌, filter, Option, unwrap_or, IsSome, IsTrue, is_some, if◌then◌else◌}
+use Rattle.std.proofs.Common.{◌≡◌, Bool, true, false, List, [], ◌∷◌, Some, None, refl, sym, ap, ◌∙◌, subst, inl, inr}
+use Rattle.std.specs.Prelude.{◌&&◌, ◌||◌, ◌⊎◌, ◌↔◌, Option, unwrap_or, IsSome, IsTrue, is_some, if◌then◌else◌}
 use Rattle.std.specs.Option.{option_map}
-use Rattle.std.proofs.lemmas.Bool.{and_parts, or_cases, both_ways, not-true}
-use Rattle.std.proofs.lemmas.Option.{same_Some}
+use Rattle.std.proofs.lemmas.Bool.{and_parts, or_cases, both_ways}
 use Rattle.route_values.specs.declared.addr.Family.{Family}
 use Rattle.route_values.specs.declared.addr.Family.TheVariants.{Ipv4, Ipv6}
 use Rattle.route_values.specs.declared.attrs.WireAttrs.{WireAttrs}
@@ -14,22 +13,18 @@ use Rattle.route_values.specs.Key.{family_of_key}
 use Rattle.route_values.proofs.KeyLemmas.{same_key-self}
 use Rattle.route_values.specs.Sent.{sent}
 use Rattle.route_values.specs.Settings.{side_of}
-use Rattle.batch_cutter.specs.Grouped.{MayFollow}
 use Rattle.adj_rib_out.specs.State.{State, Session, Item, route_at, told_at, shown_at, shown_by}
 use Rattle.adj_rib_out.specs.State as table
-use Rattle.adj_rib_out.specs.Batch.{IsOwed, owes_marker, owed_markers, attrs_said, item_at, is_left}
+use Rattle.adj_rib_out.specs.Batch.{IsOwed, owes_marker, owed_markers, is_left}
 use Rattle.adj_rib_out.specs.Calls.{begin, session_frozen, is_open, Freezes}
-use Rattle.adj_rib_out.specs.Told.{items_left}
 use Rattle.peer_history.specs.Batches.{opened, first_cut, batch, has_batch, is_refreshed, is_owed, is_marker_owed}
 use Rattle.peer_history.specs.Batches.{is_marker_left, NothingLeft}
-use Rattle.peer_history.specs.Batches as history
-use Rattle.peer_history.specs.Messages.{said_each}
 use Rattle.peer_history.specs.Same.{differ}
 use Rattle.peer_history.specs.Sessions.{peer}
 use Rattle.peer_history.specs.Steps.{Step}
 use Rattle.peer_history.specs.Steps.Step.{Up, Down, Cut}
 use Rattle.peer_history.specs.Steps.Answer.{Nothing, Message}
-use Rattle.peer_history.specs.Table.{Route, want, settings_in, is_visible, route_sent, view}
+use Rattle.peer_history.specs.Table.{want, is_visible, route_sent, view}
 use Rattle.peer_history.proofs.SessionLemmas.{no_message}
 use Rattle.peer_book.specs.Cutting.{MakesReady, GoesOnOrBegins, CutsNothing}
 use Rattle.peer_book.specs.Slot.{Slot, IsSound, IsKept}
@@ -98,18 +93,21 @@ refreshed_kept caps steps Ipv6 = refl
 -- two tests of what is owed
 owed_alike : (was shown : Option WireAttrs) (again : Bool) → ((was ≡ shown → ⊥) ⊎ (IsSome shown × IsTrue again))
     ↔ IsTrue (differ was shown || (is_some shown && again))
-owed_alike was shown again =
-    ((λ owed. elim owed [
-      | inl apart ↦ first_so (differ was shown) (is_some shown && again) (so_differ was shown apart)
-      | inr sent ↦ second_so (differ was shown) (is_some shown) again sent.0 sent.1
-    ]), λ owed. elim (or_cases (differ was shown) (is_some shown && again) owed) [
-      | inl apart ↦ inl (differ_so was shown apart)
-      | inr sent ↦ inr (and_parts (is_some shown) again sent)
-    ])
+owed_alike was shown again = (
+  (λ owed. elim owed [
+    | inl apart ↦ first_so (differ was shown) (is_some shown && again) (so_differ was shown apart)
+    | inr sent ↦ second_so (differ was shown) (is_some shown) again sent.0 sent.1
+  ]),
+  λ owed. elim (or_cases (differ was shown) (is_some shown && again) owed) [
+    | inl apart ↦ inl (differ_so was shown apart)
+    | inr sent ↦ inr (and_parts (is_some shown) again sent)
+  ],
+)
   where
     first_so : (a b : Bool) → a ≡ true → (a || b) ≡ true
     first_so true b h = refl
     first_so false b h = cc
+
     second_so : (a b c : Bool) → b ≡ true → c ≡ true → (a || (b && c)) ≡ true
     second_so true b c h k = refl
     second_so false true true h k = refl
@@ -235,11 +233,13 @@ no_families test none = each_family (λ f. test f ≡ false) (four (test Ipv4) (
         → a ≡ false
     four true b h = cc
     four false b h = refl
+
     six : (a b : Bool) → (if a then Ipv4 ∷ (if b then Ipv6 ∷ [] else []) else (if b then Ipv6 ∷ [] else [])) ≡ []
         → b ≡ false
     six true b h = cc
     six false true h = cc
     six false false h = refl
+
     each_family : (P : Family → Type 0) → P Ipv4 → P Ipv6 → (f : Family) → P f
     each_family P a b Ipv4 = a
     each_family P a b Ipv6 = b

@@ -1,7 +1,7 @@
 -- What holds of a table holds behind a freeze, and behind each item that is passed.
-use Rattle.std.proofs.Common.{◌≡◌, ℕ, Bool, true, false, not, List, [], ◌∷◌, ◌++◌, drop, Some, None, refl, sym, ap, ◌∙◌}
+use Rattle.std.proofs.Common.{◌≡◌, Bool, true, false, List, [], ◌∷◌, Some, None, refl, sym, ap, ◌∙◌}
 use Rattle.std.proofs.Common.{subst, eqb-true, inl, inr}
-use Rattle.std.specs.Prelude.{◌&&◌, ◌||◌, ◌⊎◌, ◌==◌, Option, IsSome, IsTrue, is_some, if◌then◌else◌}
+use Rattle.std.specs.Prelude.{◌||◌, ◌⊎◌, ◌==◌, Option, IsSome, is_some, if◌then◌else◌}
 use Rattle.std.specs.Option.{option_map}
 use Rattle.std.specs.List.{AllByRecursion}
 use Rattle.std.proofs.lemmas.Bool.{and_parts, or_cases}
@@ -14,13 +14,11 @@ use Rattle.route_values.specs.Visible.{IsVisible, has_path}
 use Rattle.route_values.proofs.KeyLemmas.{same_key_is, same_key-self}
 use Rattle.update_grammar.specs.Written.{IsCarried}
 use Rattle.batch_cutter.specs.Heads.{IsRoute}
-use Rattle.batch_cutter.specs.Items as batch
-use Rattle.batch_cutter.specs.Filling.{PassesEach}
 use Rattle.adj_rib_out.specs.State.{State, Session, Route, Item, route_at, told_at, shown_at, is_visible}
 use Rattle.adj_rib_out.specs.Batch.{IsOwed, attrs_said, item_at, is_left, AreOnce}
-use Rattle.adj_rib_out.specs.Calls.{begin, session_frozen, is_open, KeepsRoutes, Freezes, Passes, PassesDue}
+use Rattle.adj_rib_out.specs.Calls.{begin, session_frozen, is_open, Freezes}
 use Rattle.peer_book.specs.Slot.{SaysRoute, IsSayable, IsSound}
-use Rattle.peer_book.proofs.KeptLemmas.{sound_stays, StaysUp}
+use Rattle.peer_book.proofs.KeptLemmas.{StaysUp}
 
 -- what the test passes is visible
 visible_so : (caps : Caps) (key : Key) → is_visible caps key ≡ true → IsVisible key caps
@@ -108,9 +106,10 @@ item_first first items =
 pub all_items : (P : Item → Type 0) (items : List Item) → AreOnce items
     → ((key : Key) (item : Item) → item_at items key ≡ Some item → P item) → AllByRecursion P items
 all_items P [] once holds = tt
-all_items P (first ∷ items) once holds =
-    (holds first.key first (item_first first items),
-    all_items P items once.1 (λ key item is. holds key item (item_later first items key item once.0 is)))
+all_items P (first ∷ items) once holds = (
+  holds first.key first (item_first first items),
+  all_items P items once.1 (λ key item is. holds key item (item_later first items key item once.0 is)),
+)
 
 pub all_at : (P : Item → Type 0) (items : List Item) (key : Key) (item : Item) → AllByRecursion P items
     → item_at items key ≡ Some item → P item

@@ -1,6 +1,6 @@
 -- A slot that stands for a history stands for it with one more step.
 use Rattle.std.proofs.Common.{◌≡◌, ℕ, Bool, true, false, List, [], ◌∷◌, ◌++◌, Some, None, refl, sym, ap, ◌∙◌, subst}
-use Rattle.std.specs.Prelude.{◌&&◌, ◌||◌, map, Option, IsSome, is_some, if◌then◌else◌}
+use Rattle.std.specs.Prelude.{map, Option, is_some, if◌then◌else◌}
 use Rattle.std.specs.Option.{option_map, option_or}
 use Rattle.std.proofs.lemmas.Option.{same_Some}
 use Rattle.route_values.specs.declared.addr.Family.{Family}
@@ -13,8 +13,8 @@ use Rattle.batch_cutter.specs.Items as batch
 use Rattle.adj_rib_out.specs.declared.entry.Owner.TheVariants as keeper
 use Rattle.adj_rib_out.specs.State.{State, Session, Item, route_at, told_at, value_at, route_of}
 use Rattle.adj_rib_out.specs.State as table
-use Rattle.adj_rib_out.specs.Batch.{attrs_said, item_at, is_left}
-use Rattle.adj_rib_out.specs.Calls.{again, fresh, is_open, KeepsRoutes, KeepsSession, KeepsBatch, Restarts, Refreshes}
+use Rattle.adj_rib_out.specs.Batch.{item_at, is_left}
+use Rattle.adj_rib_out.specs.Calls.{again, is_open, KeepsSession, KeepsBatch, Restarts, Refreshes}
 use Rattle.adj_rib_out.specs.Told.{items_left, batch_item}
 use Rattle.peer_history.specs.Batches.{opened, has_batch, is_refreshed}
 use Rattle.peer_history.specs.Batches as history

@@ -1,7 +1,7 @@
 -- Static routes that are put into a table.
 use Rattle.std.proofs.Common.{◌≡◌, ℕ, ◌+◌, ◌<◌, zero, suc, Bool, true, false, not, List, [], ◌∷◌, ◌++◌, length, get_or, take}
 use Rattle.std.proofs.Common.{Some, None, refl, sym, ap, ◌∙◌, subst, arith, eq-eqb}
-use Rattle.std.specs.Prelude.{◌||◌, ◌==◌, map, Option, is_some, if◌then◌else◌}
+use Rattle.std.specs.Prelude.{◌||◌, Option, is_some, if◌then◌else◌}
 use Rattle.std.specs.Option.{option_map, option_or}
 use Rattle.std.specs.List.{AllByRecursion}
 use Rattle.std.proofs.lemmas.Option.{same_Some}
@@ -16,13 +16,12 @@ use Rattle.config_model.specs.declared.sections.StaticRoute.{StaticRoute}
 use Rattle.adj_rib_out.specs.declared.entry.Owner.TheVariants as keeper
 use Rattle.adj_rib_out.specs.State.{State, Route, is_ready, route_at, value_at, route_of}
 use Rattle.adj_rib_out.specs.Calls.{Readies}
-use Rattle.peer_history.specs.Keys.{is_named}
 use Rattle.peer_history.specs.Steps.{Static}
 use Rattle.peer_history.specs.Table.{static_at}
 use Rattle.peer_history.specs.Table as history
 use Rattle.peer_book.specs.Slot.{IsRoutable, IsSound}
 use Rattle.peer_book.specs.Stands.{asked}
-use Rattle.peer_book.specs.Statics.{static_of, statics_of, AreRoutes, PutsStatics}
+use Rattle.peer_book.specs.Statics.{static_of, statics_of, PutsStatics}
 use Rattle.peer_book.specs.Tables.{SetsEach, AreKeys, AreReady}
 use Rattle.peer_book.proofs.KeptLemmas.{IsCalm, FitsEach, sound_calm, sound_sets}
 
@@ -93,16 +92,18 @@ module _ (old mid new : State) (key : Key) (written : Attrs) (number : ℕ)
       → FitsEach mid (key ∷ []) (option_map (λ w. route_of mid.side w keeper.Static) (value_at mid number))
   fits_put are route k one named is =
       let same_route : route_of mid.side written keeper.Static ≡ one = same_Some _ _ (sym route_is ∙ is) in
-      subst (λ (r : Route). IsRoutable k r.attrs × (r.attrs ≡ sent r.written mid.side)) same_route
-      (record {
-        is_key = are k named;
-        route = elim (same_key key k) as (λ b. same_key key k ≡ b → (b || false) ≡ true
-            → IsRoute (family_of_key k) (sent written mid.side)) [
-              | true ↦ λ same so. subst (λ j. IsRoute (family_of_key j) (sent written mid.side)) (same_key_is key k same)
-                  (subst (λ side. IsRoute (family_of_key key) (sent written side)) (sym ready.routes.side) route)
-              | false ↦ λ other so. absurd cc
-            ] refl named;
-      }, refl)
+      subst (λ (r : Route). IsRoutable k r.attrs × (r.attrs ≡ sent r.written mid.side)) same_route (
+        record {
+          is_key = are k named;
+          route = elim (same_key key k) as (λ b. same_key key k ≡ b → (b || false) ≡ true
+              → IsRoute (family_of_key k) (sent written mid.side)) [
+                | true ↦ λ same so. subst (λ j. IsRoute (family_of_key j) (sent written mid.side)) (same_key_is key k same)
+                    (subst (λ side. IsRoute (family_of_key key) (sent written side)) (sym ready.routes.side) route)
+                | false ↦ λ other so. absurd cc
+              ] refl named;
+        },
+        refl,
+      )
 
   pub sound_put : IsSound old → AreKeys (key ∷ []) → IsRoute (family_of_key key) (sent written old.side) → IsSound new
   sound_put sound are route =

@@ -1,5 +1,5 @@
 -- One more key of a table is changed.
-use Rattle.std.proofs.Common.{◌≡◌, ℕ, ◌<◌, zero, suc, Bool, true, false, List, [], ◌∷◌, ◌++◌, Some, None, refl, sym, ap}
+use Rattle.std.proofs.Common.{◌≡◌, ℕ, ◌<◌, zero, suc, Bool, true, false, List, [], ◌∷◌, ◌++◌, refl, sym, ap}
 use Rattle.std.proofs.Common.{◌∙◌, ◌+◌, subst, length, get_or, take, arith, inl, inr}
 use Rattle.std.proofs.lemmas.List.{take_more}
 use Rattle.std.specs.Prelude.{◌||◌, if◌then◌else◌, Option}
@@ -10,7 +10,7 @@ use Rattle.route_values.specs.Key.{same_key}
 use Rattle.route_values.proofs.KeyLemmas.{same_key_is, same_key-self}
 use Rattle.adj_rib_out.specs.declared.entry.Owner.{Owner}
 use Rattle.adj_rib_out.specs.State.{State, Route, route_at, value_at, route_of}
-use Rattle.adj_rib_out.specs.Calls.{KeepsReady, KeepsSession, KeepsBatch, Sets}
+use Rattle.adj_rib_out.specs.Calls.{Sets}
 use Rattle.peer_history.specs.Keys.{is_named}
 use Rattle.peer_history.proofs.KeyLemmas.{is_named-append}
 use Rattle.peer_book.specs.Slot.{IsKey}

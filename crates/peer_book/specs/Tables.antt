@@ -1,5 +1,5 @@
 -- Changes of several keys of a table at once, and when they may be made.
-use Rattle.std.specs.Prelude.{ℕ, ◌≡◌, Bool, true, List, if◌then◌else◌, Option, Some}
+use Rattle.std.specs.Prelude.{ℕ, ◌≡◌, true, List, if◌then◌else◌, Option, Some}
 use Rattle.route_values.specs.declared.attrs.Attrs.{Attrs}
 use Rattle.route_values.specs.declared.key.Key.{Key}
 use Rattle.route_values.specs.declared.settings.Settings.{Settings}

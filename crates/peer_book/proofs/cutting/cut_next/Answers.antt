@@ -1,4 +1,4 @@
-use Rattle.std.proofs.Common.{◌≡◌, true, Some, ap, ◌∙◌}
+use Rattle.std.proofs.Common.{ap, ◌∙◌}
 use Rattle.std.specs.Prelude.{is_some}
 use Rattle.std.specs.Option.{option_map}
 use Rattle.batch_cutter.specs.Items.{front}
@@ -7,7 +7,6 @@ use Rattle.adj_rib_out.specs.State.{Session}
 use Rattle.peer_book.proofs.PassLemmas.{can_fill, passes_sound, passes_session, told_true}
 use Rattle.std.proofs.Common.{sym, not, subst}
 use Rattle.adj_rib_out.specs.State.{State}
-use Rattle.attr_codec.specs.Buffer.{Buffer}
 use Rattle.peer_book.specs.Cutting.{MakesReady}
 use Rattle.peer_book.specs.Slot.{IsSound}
 use Rattle.peer_book.proofs.OpenLemmas.{open_front, told_false, false_front}

@@ -1,4 +1,4 @@
-use Rattle.std.proofs.Common.{sym, subst, ◌∙◌, ap}
+use Rattle.std.proofs.Common.{sym, subst}
 use Rattle.route_values.specs.Key.{family_of_key}
 use Rattle.route_values.specs.Sent.{sent}
 use Rattle.batch_cutter.specs.Heads.{IsRoute}

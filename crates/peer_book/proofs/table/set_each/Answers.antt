@@ -1,5 +1,4 @@
-use Rattle.std.proofs.Common.{◌∙◌, subst, take, sym, ap}
-use Rattle.std.specs.Prelude.{IsSome}
+use Rattle.std.proofs.Common.{◌∙◌, subst, take, ap}
 use Rattle.std.specs.Option.{option_map}
 use Rattle.adj_rib_out.specs.State.{value_at, route_of}
 use Rattle.adj_rib_out.specs.Calls.{Sets}

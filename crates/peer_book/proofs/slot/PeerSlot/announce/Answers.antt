@@ -1,5 +1,4 @@
-use Rattle.std.proofs.Common.{◌≡◌, Some, None, sym, ap, ◌∙◌, subst}
-use Rattle.std.specs.Prelude.{Option}
+use Rattle.std.proofs.Common.{sym, ap, ◌∙◌, subst}
 use Rattle.adj_rib_out.specs.State.{value_at}
 use Rattle.adj_rib_out.specs.declared.entry.Owner.TheVariants.{Helper}
 use Rattle.peer_book.specs.Seen.{seen}

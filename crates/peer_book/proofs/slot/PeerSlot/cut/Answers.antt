@@ -1,13 +1,9 @@
 use Rattle.std.proofs.Common.{sym, ap, ◌∙◌, subst}
-use Rattle.peer_book.specs.Cutting.{answered}
 use Rattle.peer_book.specs.Seen.{seen}
 use Rattle.peer_book.specs.Stands.{Stands}
 use Rattle.peer_book.proofs.CutLemmas.{cuts_routes, kept_cut, texts_of, cut_answer, cut_nothing, cut_message}
 use Rattle.std.specs.Prelude.{Option, None, is_some, if◌then◌else◌}
-use Rattle.std.specs.Option.{option_map}
-use Rattle.update_grammar.specs.Packed.{room}
 use Rattle.peer_history.specs.Steps.{Code}
-use Rattle.peer_history.specs.Cuts.{MayAnswer}
 use Rattle.peer_book.specs.Slot.{Slot}
 use Rattle.peer_book.proofs.CutLemmas.{cut_none, cut_reset}
 use Rattle.peer_book.proofs.slot.PeerSlot.cut.Goals as goal

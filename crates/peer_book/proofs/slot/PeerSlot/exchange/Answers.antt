@@ -1,4 +1,4 @@
-use Rattle.std.proofs.Common.{◌≡◌, ◌∷◌, None, sym, ap, ◌∙◌, subst}
+use Rattle.std.proofs.Common.{◌∷◌, sym, ap, ◌∙◌, subst}
 use Rattle.peer_book.specs.Seen.{seen}
 use Rattle.peer_book.specs.Slot.{live_caps}
 use Rattle.peer_book.specs.Stands.{Stands}
