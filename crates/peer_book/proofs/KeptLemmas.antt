@@ -23,6 +23,7 @@ use Rattle.adj_rib_out.specs.Calls.{Readies, ReadiesSome, Trims}
 use Rattle.peer_history.specs.Keys.{is_named}
 use Rattle.peer_history.specs.Steps.{Code}
 use Rattle.peer_book.specs.Slot.{Slot, live_caps, IsSayable, IsSound, IsKept, IsRoutable}
+use Rattle.peer_book.specs.Clearing.{UnsetsAll}
 use Rattle.peer_book.specs.Tables.{SetsEach, AreKeys, CanAnnounce}
 
 -- routes that stay
@@ -235,3 +236,24 @@ value_fits slot keys number owner kept can are key one named is =
 pub placed_not : (settings : Option Settings) (own : Settings) → settings ≡ Some own → settings ≡ None → ⊥
 placed_not None own is none = cc
 placed_not (Some other) own is none = cc
+
+pub kept_clear : (slot : Slot) (new : State) → IsKept slot → UnsetsAll slot.table new
+    → IsKept (slot_with slot new slot.session slot.reset)
+kept_clear slot new kept unsets = record {
+  session = ap (option_map (λ (s : Session). s.caps)) unsets.session.session ∙ kept.session;
+  side = λ own is. unsets.side ∙ kept.side own is;
+  vacant = λ none key. unsets.routes key;
+  table = record {
+    routes = λ key route is. absurd (no_route key route is);
+    sent = λ key route is. absurd (no_route key route is);
+    told = λ session key is there.
+        kept.table.told session key (sym unsets.session.session ∙ is)
+        (sym (ap is_some (unsets.session.told key)) ∙ there);
+    left = λ session is. subst (AllByRecursion (IsSayable session.caps)) (sym unsets.batch.left)
+        (kept.table.left session (sym unsets.session.session ∙ is));
+    once = subst AreOnce (sym unsets.batch.left) kept.table.once;
+  };
+}
+  where
+    no_route : (key : Key) (route : Route) → route_at new key ≡ Some route → ⊥
+    no_route key route is = let none : ◌≡◌ {A = Option Route} None (Some route) = sym (unsets.routes key) ∙ is in cc

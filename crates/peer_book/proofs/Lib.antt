@@ -11,3 +11,4 @@ pub mod StandsLemmas
 pub mod TableLemmas
 pub mod StaticsLemmas
 pub mod ExchangeLemmas
+pub mod ClearLemmas

@@ -21,12 +21,13 @@ use Rattle.peer_history.specs.Batches as history
 use Rattle.peer_history.specs.Messages.{said_each}
 use Rattle.peer_history.specs.Sessions.{session, reset, live, peer}
 use Rattle.peer_history.specs.Steps.{Step, Code}
-use Rattle.peer_history.specs.Steps.Step.{Announced, Withdrawn, Up, Down, Ended, Refreshed}
+use Rattle.peer_history.specs.Steps.Step.{Announced, Withdrawn, Cleared, Up, Down, Ended, Refreshed}
 use Rattle.peer_history.specs.Keys.{is_named}
 use Rattle.peer_history.specs.Table.{Route, want}
 use Rattle.peer_history.specs.Table.Owner.{Helper}
 use Rattle.peer_book.specs.Slot.{Slot}
 use Rattle.peer_book.specs.Stands.{asked, LeavesBatch, session_kept, StandsLive, Stands}
+use Rattle.peer_book.specs.Clearing.{UnsetsAll}
 use Rattle.peer_book.specs.Tables.{SetsEach}
 use Rattle.peer_book.proofs.KeptLemmas.{slot_with, IsCalm}
 
@@ -198,3 +199,14 @@ stands_announce steps slot new keys number written value stands sets =
       live = λ caps at. live_kept caps steps (Announced keys written ∷ steps) slot.table new refl refl refl (λ key. refl)
           sets.session sets.batch (stands.live caps at);
     }
+
+pub stands_clear : (steps : List Step) (slot : Slot) (new : State) → Stands steps slot → UnsetsAll slot.table new
+    → Stands (Cleared ∷ steps) (slot_with slot new slot.session slot.reset)
+stands_clear steps slot new stands unsets = record {
+  settings = stands.settings;
+  routes = λ key. ap (option_map asked) (unsets.routes key);
+  session = stands.session;
+  reset = stands.reset;
+  live = λ caps is. live_kept caps steps (Cleared ∷ steps) slot.table new refl refl refl (λ key. refl)
+      unsets.session unsets.batch (stands.live caps is);
+}

@@ -4,3 +4,4 @@ pub mod Tables
 pub mod Stands
 pub mod Seen
 pub mod Statics
+pub mod Clearing

@@ -2,6 +2,7 @@
 #![tactic(auto)]
 
 mod asking;
+mod clearing;
 mod code;
 mod cut;
 mod cutting;

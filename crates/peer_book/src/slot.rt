@@ -8,7 +8,7 @@ ghost use Rattle.adj_rib_out.specs.State.{value_at};
 ghost use Rattle.adj_rib_out.specs.Calls.{empty, Readies, ReadiesSome, Trims};
 ghost use Rattle.peer_history.specs.Cuts.{MayAnswer};
 ghost use Rattle.peer_history.specs.Steps.{Step};
-ghost use Rattle.peer_history.specs.Steps.Step.{Announced, Withdrawn, Placed, Vacated, Up, Down, Ended, Refreshed};
+ghost use Rattle.peer_history.specs.Steps.Step.{Announced, Withdrawn, Cleared, Placed, Vacated, Up, Down, Ended, Refreshed};
 ghost use Rattle.peer_history.specs.Steps.Step.{Cut as CutStep};
 ghost use Rattle.peer_book.specs.Cutting.{answered};
 ghost use Rattle.peer_book.specs.Slot.{live_caps};
@@ -16,6 +16,7 @@ ghost use Rattle.peer_book.specs.Stands.{Stands};
 ghost use Rattle.peer_book.specs.Statics.{statics_of, AreRoutes, StandsWithout, IsExchange};
 ghost use Rattle.peer_book.specs.Tables.{CanAnnounce};
 
+use crate::clearing::unset_all;
 use crate::code::Code;
 use crate::cut::Cut;
 use crate::cutting::cut_next;
@@ -142,6 +143,13 @@ impl PeerSlot {
         ensures { (steps : List Step) → Stands steps self.old → Stands (Withdrawn keys.now ∷ steps) self.new }
     {
         unset_each(&mut self.table, keys);
+    }
+
+    /// Takes all routes out of the table, whoever asked for them. It takes no memory.
+    pub fn clear(&mut self)
+        ensures { (steps : List Step) → Stands steps self.old → Stands (Cleared ∷ steps) self.new }
+    {
+        unset_all(&mut self.table);
     }
 
     /// A session comes up, on which nothing was sent. One that stood ends.
