@@ -186,6 +186,15 @@ impl PeerSlot {
         self.table.refresh(family);
     }
 
+    /// The routes of both families are to be sent again by the next batch. Without a live session nothing changes.
+    pub fn flush(&mut self)
+        ensures { (steps : List Step) → Stands steps self.old
+            → Stands (Refreshed Family.Ipv6 ∷ Refreshed Family.Ipv4 ∷ steps) self.new }
+    {
+        self.refresh(Family::Ipv4);
+        self.refresh(Family::Ipv6);
+    }
+
     /// Makes the next message of the session in an empty buffer, and answers what it is: nothing where no session
     /// stands, where a code ended it, or where nothing is owed. It takes no memory.
     pub fn cut(&mut self, out: &mut Message) -> Cut
