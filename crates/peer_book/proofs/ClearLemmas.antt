@@ -1,15 +1,15 @@
 -- A table from which all routes are taken.
 use Rattle.std.proofs.Common.{◌≡◌, ℕ, ◌+◌, ◌<◌, ◌≤◌, zero, suc, Bool, true, false, List, [], ◌∷◌, length, Some, None, refl}
-use Rattle.std.proofs.Common.{sym, ap, ◌∙◌, subst, arith, inl, inr, eqb-true}
+use Rattle.std.proofs.Common.{sym, ap, ◌∙◌, arith, inl, inr, eqb-true}
 use Rattle.std.proofs.lemmas.Bool.{eqb-false}
-use Rattle.std.specs.Prelude.{◌⊎◌, ◌==◌, map, slice_get, Option, IsSome, is_some, if◌then◌else◌}
+use Rattle.std.specs.Prelude.{◌⊎◌, ◌==◌, map, slice_get, Option, is_some, if◌then◌else◌}
 use Rattle.std.specs.Option.{option_map, option_and_then}
 use Rattle.std.proofs.lemmas.Option.{same_Some}
 use Rattle.route_values.specs.declared.key.Key.{Key}
 use Rattle.route_values.specs.Key.{same_key}
-use Rattle.route_values.proofs.KeyLemmas.{same_key-self, same_key_is}
+use Rattle.route_values.proofs.KeyLemmas.{same_key-self}
 use Rattle.adj_rib_out.specs.State.{State, Row, Route, row_at, route_at}
-use Rattle.adj_rib_out.specs.Calls.{KeepsReady, KeepsSession, KeepsBatch, Sets}
+use Rattle.adj_rib_out.specs.Calls.{Sets}
 use Rattle.adj_rib_out.specs.Nodes.{pair_of, pair_at, AreApart}
 use Rattle.peer_book.specs.Clearing.{UnsetsTo, UnsetsAll}
 
@@ -177,9 +177,11 @@ unset_some start mid new place key apart before is sets = record {
   where
     apart_new : AreApart new.rows
     apart_new = apart_same mid.rows new.rows sets.ready.places apart
+
     here : (p : ℕ) (row : Row) → slice_get new.rows p ≡ Some (Some row)
         → row.route ≡ (if same_key key row.key then None else route_at mid row.key)
     here p row at = sym (route_here new p row apart_new at) ∙ sets.routes row.key
+
     gone : (p : ℕ) (row : Row) → p < place + 1 → slice_get new.rows p ≡ Some (Some row) → row.route ≡ None
     gone p row within at =
         let was = row_was mid.rows new.rows p row sets.ready.places at in

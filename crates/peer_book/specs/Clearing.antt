@@ -1,5 +1,5 @@
 -- All routes are taken out of a table.
-use Rattle.std.specs.Prelude.{ℕ, ◌≡◌, ◌<◌, Option, Some, None, slice_get}
+use Rattle.std.specs.Prelude.{ℕ, ◌≡◌, ◌<◌, Some, None, slice_get}
 use Rattle.route_values.specs.declared.key.Key.{Key}
 use Rattle.adj_rib_out.specs.State.{State, Row, route_at}
 use Rattle.adj_rib_out.specs.Calls.{KeepsReady, KeepsSession, KeepsBatch}

@@ -1,4 +1,4 @@
-use Rattle.std.proofs.Common.{◌∙◌, sym}
+use Rattle.std.proofs.Common.{sym}
 use Rattle.peer_book.proofs.ClearLemmas.{unset_none, unset_some, pair_none}
 use Rattle.peer_book.proofs.clearing.unset_at.Goals as goal
 
