@@ -1,5 +1,6 @@
 -- A table from which all routes are taken.
-use Rattle.std.proofs.Common.{◌≡◌, ℕ, ◌+◌, ◌<◌, ◌≤◌, zero, suc, Bool, true, false, List, [], ◌∷◌, length, Some, None, refl}
+use Rattle.std.proofs.Common.{◌≡◌, ℕ, ◌+◌, ◌<◌, ◌≤◌, zero, suc, Bool, true, false, List, [], ◌∷◌, length, Some, None}
+use Rattle.std.proofs.Common.{refl}
 use Rattle.std.proofs.Common.{sym, ap, ◌∙◌, arith, inl, inr, eqb-true}
 use Rattle.std.proofs.lemmas.Bool.{eqb-false}
 use Rattle.std.specs.Prelude.{◌⊎◌, ◌==◌, map, slice_get, Option, is_some, if◌then◌else◌}
@@ -120,7 +121,8 @@ apart_same old new same apart i j a b at_i at_j alike =
 none_pair : (row : Row) → pair_of (Some row) ≡ None → row.route ≡ None
 none_pair row is = none_route row.route is
   where
-    none_route : (route : Option Route) → option_map {T = Route} {U = Key × Route} (λ r. (row.key, r)) route ≡ None → route ≡ None
+    none_route : (route : Option Route)
+        → option_map {T = Route} {U = Key × Route} (λ r. (row.key, r)) route ≡ None → route ≡ None
     none_route None h = refl
     none_route (Some r) h = absurd cc
 
@@ -145,18 +147,22 @@ unset_none start mid place before none = record {
 }
 
 -- the key of a pair is that of its row
-pair_key : (row : Option (Option Row)) (key : Key) → option_map (λ (p : Key × Route). p.0) (option_and_then pair_of row) ≡ Some key
+pair_key : (row : Option (Option Row)) (key : Key)
+    → option_map (λ (p : Key × Route). p.0) (option_and_then pair_of row) ≡ Some key
     → (r : Row) × (row ≡ Some (Some r)) × (r.key ≡ key)
 pair_key None key is = absurd cc
 pair_key (Some None) key is = absurd cc
 pair_key (Some (Some r)) key is = (r, refl, by_route r.route is)
   where
-    by_route : (route : Option Route) → option_map (λ (p : Key × Route). p.0) (option_map {T = Route} {U = Key × Route} (λ x. (r.key, x)) route) ≡ Some key → r.key ≡ key
+    by_route : (route : Option Route)
+        → option_map (λ (p : Key × Route). p.0) (option_map {T = Route} {U = Key × Route} (λ x.
+        (r.key, x)) route) ≡ Some key → r.key ≡ key
     by_route None is = absurd cc
     by_route (Some x) is = same_Some _ _ is
 
 pub unset_some : (start mid new : State) (place : ℕ) (key : Key) → AreApart mid.rows → UnsetsTo start mid place
-    → option_map (λ (p : Key × Route). p.0) (pair_at mid place) ≡ Some key → Sets mid new key None → UnsetsTo start new (place + 1)
+    → option_map (λ (p : Key × Route). p.0) (pair_at mid place) ≡ Some key → Sets mid new key None
+    → UnsetsTo start new (place + 1)
 unset_some start mid new place key apart before is sets = record {
   side = sets.side ∙ before.side;
   ready = record {

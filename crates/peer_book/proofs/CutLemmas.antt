@@ -82,7 +82,8 @@ marker_made texts caps steps mid new bytes family items only ready split passed 
           (split ∙ ap (λ its. its ++ items_left new) only) due
           (text ∙ ap (λ its. written caps (head.End family) (keys_of its)) only)
           (subst (λ its. Fits caps (head.End family) (keys_of its)) only fits)
-          (subst (λ its. GoesOn caps (said_by its) (items_left new) (said_each caps (history.batch steps))) only goes_on);
+          (subst (λ its. GoesOn caps (said_by its) (items_left new) (said_each caps
+          (history.batch steps))) only goes_on);
     }
 
 made : (texts : Texts) (caps : Caps) (steps : List Step) (mid new : State) (bytes : List ℕ) → IsReady caps steps mid
@@ -157,9 +158,11 @@ live_at steps slot caps stands at none =
 
 -- the slot behind a cut of a live session
 stands_cut : (steps : List Step) (slot : Slot) (new : State) (caps : Caps) (answer : step.Answer)
-    → Stands steps slot → KeepsRoutes slot.table new → live steps ≡ Some caps → session (Cut answer ∷ steps) ≡ session steps
+    → Stands steps slot → KeepsRoutes slot.table new → live steps ≡ Some caps
+    → session (Cut answer ∷ steps) ≡ session steps
     → reset (Cut answer ∷ steps) ≡ reset steps
-    → StandsLive caps (Cut answer ∷ steps) new → Stands (Cut answer ∷ steps) (slot_with slot new slot.session slot.reset)
+    → StandsLive caps (Cut answer ∷ steps) new
+    → Stands (Cut answer ∷ steps) (slot_with slot new slot.session slot.reset)
 stands_cut steps slot new caps answer stands routes at session_same reset_same live_new = record {
   settings = stands.settings;
   routes = λ key. ap (option_map asked) (routes.routes key) ∙ stands.routes key;
@@ -184,7 +187,11 @@ cut_message texts steps slot new caps bytes last kept stands up none cuts =
     let behind = passes_routes cuts.fills.items cuts.mid new cuts.fills.passed in (
       (caps, at, may_cut caps steps cuts.mid new bytes last message.h message.keys ready same message.is cuts.ends),
       stands_cut steps slot new caps (step.Message bytes last) stands
-          (record { side = behind.side ∙ before.side; routes = λ key. behind.routes key ∙ before.routes key }) at refl refl
+          (record {
+            side = behind.side ∙ before.side;
+            routes = λ key. behind.routes key
+                ∙ before.routes key;
+          }) at refl refl
           (live_message caps steps cuts.mid new bytes last message.h message.keys ready same message.is cuts.ends),
     )
 

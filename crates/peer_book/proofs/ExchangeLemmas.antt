@@ -103,7 +103,8 @@ kept_placed settings table new statics is puts sound = record {
   where
     placed_side : (settings own : Settings) → ◌≡◌ {A = Option Settings} (Some settings) (Some own)
         → side_of settings ≡ side_of own
-    placed_side settings own at = ap (λ (o : Option Settings). elim o [ None ↦ side_of settings | Some s ↦ side_of s ]) at
+    placed_side settings own at = ap (λ
+        (o : Option Settings). elim o [ None ↦ side_of settings | Some s ↦ side_of s ]) at
 
 pub without_placed : (steps : List Step) (settings : Settings) (table new : State) (statics : List Static)
     → table ≡ empty (side_of settings) → PutsStatics table new statics

@@ -33,7 +33,8 @@ use Rattle.peer_history.specs.Steps.Step.{Cut}
 use Rattle.peer_history.specs.Steps.Answer.{Message}
 use Rattle.peer_history.specs.Table.{view}
 use Rattle.peer_history.proofs.KeyLemmas.{is_named-append}
-use Rattle.peer_history.proofs.MessageLemmas.{Grammar, AreFor, head_marks, net_meant, names_keys, said_is, written_marks}
+use Rattle.peer_history.proofs.MessageLemmas.{Grammar, AreFor, head_marks, net_meant, names_keys, said_is}
+use Rattle.peer_history.proofs.MessageLemmas.{written_marks}
 use Rattle.peer_book.specs.Slot.{SaysRoute, IsSayable, IsSound}
 use Rattle.peer_book.specs.Stands.{LeavesBatch, session_kept}
 use Rattle.peer_book.proofs.SoundLemmas.{all_at, item_key}
@@ -245,7 +246,8 @@ module _ (texts : Texts) (caps : Caps) (steps : List Step) (mid new : State) (by
         ∙ ap (λ ks. is_named ks key) (sym named));
     says = λ key item is. ready.leaves.says key item (passes.says key item is);
     markers = passes.markers ∙ ready.leaves.markers
-        ∙ families_same _ _ (λ f. ap (λ b. is_marker_owed caps (first_cut steps) f && not (b || is_marked f (batch steps)))
+        ∙ families_same _ _ (λ f. ap (λ b. is_marker_owed caps (first_cut steps) f
+        && not (b || is_marked f (batch steps)))
         (sym (unmarked f)));
     follow = goes_on.follow;
   }

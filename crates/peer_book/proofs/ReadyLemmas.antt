@@ -227,7 +227,8 @@ pub closed_empty : (state : State) → is_open state ≡ false → (state.left �
 closed_empty state closed = empty_by state.left state.markers closed
 
 no_families : (test : Family → Bool) → families_where test ≡ [] → (family : Family) → test family ≡ false
-no_families test none = each_family (λ f. test f ≡ false) (four (test Ipv4) (test Ipv6) none) (six (test Ipv4) (test Ipv6) none)
+no_families test none = each_family (λ f. test f ≡ false) (four (test Ipv4) (test Ipv6) none) (six (test Ipv4)
+    (test Ipv6) none)
   where
     four : (a b : Bool) → (if a then Ipv4 ∷ (if b then Ipv6 ∷ [] else []) else (if b then Ipv6 ∷ [] else [])) ≡ []
         → a ≡ false

@@ -54,7 +54,8 @@ shown_route old caps key attrs (Some route) sound at visible is =
     }
 
 pub shown_so : (old : State) (session : Session) (key : Key) (attrs : WireAttrs) → IsSound old
-    → (if is_visible session.caps key then option_map (λ (r : Route). r.attrs) (route_at old key) else None) ≡ Some attrs
+    → (if is_visible session.caps key then option_map (λ (r : Route). r.attrs)
+    (route_at old key) else None) ≡ Some attrs
     → IsShown session.caps key attrs
 shown_so old session key attrs sound is =
     elim (is_visible session.caps key) as (λ b. is_visible session.caps key ≡ b
@@ -128,7 +129,8 @@ says_shown key says None caps is shown = subst (SaysRoute key) (sym is) tt
 says_shown key says (Some attrs) caps is shown = subst (SaysRoute key) (sym is) (shown attrs refl).route
 
 -- an owed key is carried: it was told, or is shown
-owed_carried : (caps : Caps) (key : Key) (was shown : Option WireAttrs) → (IsSome was → IsCarried caps (family_of_key key) key)
+owed_carried : (caps : Caps) (key : Key) (was shown : Option WireAttrs) → (IsSome was
+    → IsCarried caps (family_of_key key) key)
     → ((attrs : WireAttrs) → shown ≡ Some attrs → IsShown caps key attrs) → (was ≡ shown → ⊥) ⊎ IsSome shown
     → IsCarried caps (family_of_key key) key
 owed_carried caps key was (Some attrs) told shows owed = (shows attrs refl).carried

@@ -196,7 +196,8 @@ stands_announce steps slot new keys number written value stands sets =
           ∙ ap (λ (r : Option Route). if is_named keys key then r else want steps key) is;
       session = stands.session;
       reset = stands.reset;
-      live = λ caps at. live_kept caps steps (Announced keys written ∷ steps) slot.table new refl refl refl (λ key. refl)
+      live = λ caps at. live_kept caps steps (Announced keys written ∷ steps) slot.table new refl refl refl
+          (λ key. refl)
           sets.session sets.batch (stands.live caps at);
     }
 

@@ -1,5 +1,6 @@
 -- Static routes that are put into a table.
-use Rattle.std.proofs.Common.{◌≡◌, ℕ, ◌+◌, ◌<◌, zero, suc, Bool, true, false, not, List, [], ◌∷◌, ◌++◌, length, get_or, take}
+use Rattle.std.proofs.Common.{◌≡◌, ℕ, ◌+◌, ◌<◌, zero, suc, Bool, true, false, not, List, [], ◌∷◌, ◌++◌, length}
+use Rattle.std.proofs.Common.{get_or, take}
 use Rattle.std.proofs.Common.{Some, None, refl, sym, ap, ◌∙◌, subst, arith, eq-eqb}
 use Rattle.std.specs.Prelude.{◌||◌, Option, is_some, if◌then◌else◌}
 use Rattle.std.specs.Option.{option_map, option_or}
@@ -50,10 +51,12 @@ or_none (Some a) = refl
 
 module _ (old mid new : State) (key : Key) (written : Attrs) (number : ℕ)
     (ready : Readies old mid (key ∷ []) written number) (free : route_at mid key ≡ None)
-    (sets : SetsEach mid new (key ∷ []) (option_map (λ w. route_of mid.side w keeper.Static) (value_at mid number))) where
+    (sets : SetsEach mid new (key ∷ []) (option_map (λ w. route_of mid.side w keeper.Static)
+    (value_at mid number))) where
   route_is : option_map (λ w. route_of mid.side w keeper.Static) (value_at mid number)
       ≡ Some (route_of mid.side written keeper.Static)
-  route_is = ap (option_map (λ w. route_of mid.side w keeper.Static)) (ready_value old mid (key ∷ []) written number ready)
+  route_is = ap (option_map (λ w. route_of mid.side w keeper.Static)) (ready_value old mid
+      (key ∷ []) written number ready)
 
   routes_put : (k : Key) → option_map asked (route_at new k)
       ≡ option_or (option_map asked (route_at old k))
@@ -97,7 +100,8 @@ module _ (old mid new : State) (key : Key) (written : Attrs) (number : ℕ)
           is_key = are k named;
           route = elim (same_key key k) as (λ b. same_key key k ≡ b → (b || false) ≡ true
               → IsRoute (family_of_key k) (sent written mid.side)) [
-                | true ↦ λ same so. subst (λ j. IsRoute (family_of_key j) (sent written mid.side)) (same_key_is key k same)
+                | true ↦ λ same so. subst (λ j. IsRoute (family_of_key j) (sent written mid.side))
+                    (same_key_is key k same)
                     (subst (λ side. IsRoute (family_of_key key) (sent written side)) (sym ready.routes.side) route)
                 | false ↦ λ other so. absurd cc
               ] refl named;
@@ -125,7 +129,8 @@ some_asked None h = h
 some_asked (Some route) h = refl
 
 pub put_there : {A : Type 0} (f : A → Route) (old mid : State) (key : Key) (written : Attrs) (number : ℕ)
-    (found : Option A) (free : Bool) → Readies old mid (key ∷ []) written number → is_some found ≡ not free → free ≡ false
+    (found : Option A) (free : Bool) → Readies old mid (key ∷ []) written number → is_some found ≡ not free
+    → free ≡ false
     → option_map f found ≡ route_at mid key → PutsStatics old mid (record { key = key; attrs = written } ∷ [])
 put_there f old mid key written number found free ready is so at = record {
   side = ready.routes.side;
@@ -180,7 +185,8 @@ puts_more : (old mid new : State) (statics : List Static) (s : Static) → PutsS
     → PutsStatics mid new (s ∷ []) → PutsStatics old new (statics ++ s ∷ [])
 puts_more old mid new statics s before puts = record {
   side = puts.side ∙ before.side;
-  routes = λ key. puts.routes key ∙ ap (λ (r : Option history.Route). option_or r (static_at (s ∷ []) key)) (before.routes key)
+  routes = λ key. puts.routes key
+      ∙ ap (λ (r : Option history.Route). option_or r (static_at (s ∷ []) key)) (before.routes key)
       ∙ or_or (option_map asked (route_at old key)) (static_at statics key) (static_at (s ∷ []) key)
       ∙ ap (option_or (option_map asked (route_at old key))) (sym (static_more statics s key));
   session = record {

@@ -61,7 +61,8 @@ pub sets_next : (old mid new : State) (keys : List Key) (i : ℕ) (key : Key) (r
     → SetsEach old new (take (i + 1) keys) route
 sets_next old mid new keys i key route within is each sets =
     subst (λ ks. SetsEach old new ks route) (sym (take_more keys i key within))
-    (subst (λ k. SetsEach old new (take i keys ++ k ∷ []) route) is (sets_more old mid new (take i keys) key route each sets))
+    (subst (λ k. SetsEach old new (take i keys ++ k ∷ []) route) is (sets_more old mid new
+    (take i keys) key route each sets))
 
 -- the route of a value in a table that keeps its side and its values
 pub route_same : (old mid : State) (keys : List Key) (route : Option Route) (number : ℕ) (owner : Owner)
@@ -88,7 +89,8 @@ named_item keys i key within is = ap (is_named keys) is ∙ named_at keys i key 
 
 keys_more : (keys : List Key) (key : Key) → AreKeys keys → IsKey key → AreKeys (keys ++ key ∷ [])
 keys_more keys key are is other named =
-    elim (or_cases (is_named keys other) (is_named (key ∷ []) other) (sym (is_named-append keys (key ∷ []) other) ∙ named)) [
+    elim (or_cases (is_named keys other) (is_named (key ∷ []) other) (sym (is_named-append keys (key ∷ []) other)
+    ∙ named)) [
       | inl before ↦ are other before
       | inr last ↦ elim (or_cases (same_key key other) false last) [
         | inl same ↦ subst IsKey (same_key_is key other same) is

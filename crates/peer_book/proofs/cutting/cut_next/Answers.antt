@@ -20,7 +20,8 @@ returns-clause-sound c =
 pub returns-clause-session : goal.returns-clause-session
 returns-clause-session c =
     let fills = told_true c.fill.result c.if-not-fill.false c.fill.ensures.message in
-    ap (option_map (λ (s : Session). s.caps)) (passes_session fills.items c.make_ready.new.table c.fill.new.batch fills.passed)
+    ap (option_map (λ (s : Session). s.caps))
+    (passes_session fills.items c.make_ready.new.table c.fill.new.batch fills.passed)
     ∙ c.make_ready.ensures.session ∙ c.requires.session
 
 pub fill-requires-clause-route : goal.fill-requires-clause-route

@@ -25,7 +25,8 @@ returns-then-not-is_open-clause-session c =
 
 pub returns-else-not-is_open-clause-ready : goal.returns-else-not-is_open-clause-ready
 returns-else-not-is_open-clause-ready c =
-    subst (λ b. GoesOnOrBegins b c.args.table.now c.args.table.now) (sym c.if-not-is_open.false ∙ c.is_open.ensures) refl
+    subst (λ b. GoesOnOrBegins b c.args.table.now c.args.table.now) (sym c.if-not-is_open.false
+    ∙ c.is_open.ensures) refl
 
 pub returns-else-not-is_open-clause-sound : goal.returns-else-not-is_open-clause-sound
 returns-else-not-is_open-clause-sound c = c.requires.sound

@@ -19,7 +19,8 @@ invariant_of-self c =
 pub returns-clause-stands : goal.returns-clause-stands
 returns-clause-stands c = λ steps stands.
     let slot = seen c.self.inside in
-    subst (λ (reset : Option Code). Stands (Ended c.args.code ∷ steps) (slot_with slot c.down.new.self slot.session reset))
+    subst (λ (reset : Option Code). Stands (Ended c.args.code ∷ steps)
+    (slot_with slot c.down.new.self slot.session reset))
     (sym c.or-self-inside.ensures)
     (stands_end steps slot c.down.new.self c.args.code (subst (Stands steps) (sym c.self.view_is) stands)
     c.down.ensures.restarts)
