@@ -16,7 +16,7 @@ pub fn nanos<R: time::Clock>(rt: &R) -> u64 {
 }
 
 /// Prints what a moment of the workers' clock costs.
-pub fn time_moments<R: time::Clock + Eprint>(rt: &R) -> Result<(), Fail> {
+pub fn time_moments<R: time::Clock + Eprint + Sync>(rt: &R) -> Result<(), Fail> {
     let clock = SystemClock::new(rt);
     let start = nanos(rt);
     for _ in 0..MOMENTS {

@@ -4,16 +4,16 @@ use Rattle.std.proofs.Common.{ap, subst, arith, append-nil, length-append, inl, 
 use Rattle.route_values.specs.declared.addr.Family.TheVariants.{Ipv4}
 use Rattle.route_values.specs.declared.settings.Side.{Side}
 use Rattle.outside.specs.Seen.{SourceSeen, SinkSeen}
-use Rattle.outside.specs.Told.{Grows, CountsOne}
+use Rattle.outside.specs.Told.{Grows}
 use Rattle.update_grammar.specs.Laws.{EndIsSpelled}
 use Rattle.exa_top.specs.declared.status.Status.{Status}
 use Rattle.exa_top.specs.declared.status.Status.TheVariants as status
 use Rattle.exa_top.specs.declared.words.TextCommand.{TextCommand}
-use Rattle.exa_top.specs.declared.words.TextCommand.TheVariants.{Encode, Parse, Help, Version}
+use Rattle.exa_top.specs.declared.words.TextCommand.TheVariants.{Encode, Check, Parse, Help, Version}
 use Rattle.exa_top.specs.Encoding.{IsEncoding, marker, last_text}
 use Rattle.exa_top.specs.Parsing.{IsParsing}
-use Rattle.exa_top.specs.Top.{input_limit, IsOutput, ReadToEnd, ReadsWhole, ReadPart, ReadNothing, ReadsPart, Broke}
-use Rattle.exa_top.specs.Top.{GaveFrom, IsLeft, Answered, Wrote}
+use Rattle.exa_top.specs.Top.{input_limit, IsOutput, ReadToEnd, ReadsWhole, ReadPart, ReadNothing}
+use Rattle.exa_top.specs.Top.{ReadsPart, ReadsInput, IsConfigured, Broke, GaveFrom, IsLeft, Answered, Wrote}
 use Rattle.exa_top.proofs.OutputLemmas.{some_encoding, some_parsing, parted}
 
 -- what isn't touched has grown by nothing
@@ -33,21 +33,34 @@ few_given limit (Some was) None bytes grows few from = from
 few_given limit (Some was) (Some now) bytes grows few from = absurd
     (omega (arith, from, few, ap length grows, length-append was bytes))
 
+-- what is left as it was gave fewer bytes than the limit
+pub untouched_is_few : (source source' : SourceSeen) (bytes : List ℕ) → ReadNothing source source' bytes
+    → GaveFrom input_limit source.given source'.given → ⊥
+untouched_is_few source source' bytes whole from =
+    let Gave : SourceSeen → Type 0 = λ seen. GaveFrom input_limit source.given seen.given in
+    few_given input_limit source.given source.given [] (grows_none source.given) (omega arith)
+    (subst Gave whole.same from)
+
 -- a command that ended well was given fewer bytes than the limit
-pub whole_is_few : (command : TextCommand) (source source' : SourceSeen) (bytes : List ℕ)
-    → ReadsWhole command source source' bytes → GaveFrom input_limit source.given source'.given → ⊥
-whole_is_few (Encode side) source source' bytes whole = few_given input_limit source.given source'.given bytes
+pub whole_is_few : (content : Option (List ℕ → List ℕ)) (command : TextCommand) (source source' : SourceSeen)
+    (bytes : List ℕ) → ReadsWhole content command source source' bytes
+    → GaveFrom input_limit source.given source'.given → ⊥
+whole_is_few content (Encode side) source source' bytes whole = few_given input_limit source.given source'.given bytes
     whole.given whole.short
-whole_is_few Parse source source' bytes whole = few_given input_limit source.given source'.given bytes
+whole_is_few content (Check path) source source' bytes whole = untouched_is_few source source' bytes whole.0
+whole_is_few content Parse source source' bytes whole = few_given input_limit source.given source'.given bytes
     whole.given whole.short
-whole_is_few Help source source' bytes whole = λ from.
-    let none : SourceSeen → Type 0 = λ seen. GaveFrom input_limit source.given seen.given in
-    few_given input_limit source.given source.given [] (grows_none source.given) (omega arith)
-    (subst none whole.same from)
-whole_is_few Version source source' bytes whole = λ from.
-    let none : SourceSeen → Type 0 = λ seen. GaveFrom input_limit source.given seen.given in
-    few_given input_limit source.given source.given [] (grows_none source.given) (omega arith)
-    (subst none whole.same from)
+whole_is_few content Help source source' bytes whole = untouched_is_few source source' bytes whole
+whole_is_few content Version source source' bytes whole = untouched_is_few source source' bytes whole
+
+-- what ended well had its configuration
+pub whole_is_configured : (content : Option (List ℕ → List ℕ)) (command : TextCommand) (source source' : SourceSeen)
+    (bytes : List ℕ) → ReadsWhole content command source source' bytes → IsConfigured content command
+whole_is_configured content (Encode side) source source' bytes whole = tt
+whole_is_configured content (Check path) source source' bytes whole = whole.1
+whole_is_configured content Parse source source' bytes whole = tt
+whole_is_configured content Help source source' bytes whole = tt
+whole_is_configured content Version source source' bytes whole = tt
 
 -- a part of a read whole
 pub part_of_whole : (source source' : SourceSeen) (bytes : List ℕ) → ReadToEnd source source' bytes
@@ -59,25 +72,28 @@ part_of_whole source source' bytes whole = record {
 }
 
 -- a command that read what it had to and then wrote
-pub written : (command : TextCommand) (source source' : SourceSeen) (sink sink' : SinkSeen) (input early late : List ℕ)
-    (ends : Status) → ReadsWhole command source source' input → ReadsPart command source source' input
-    → IsOutput command input early late
-    → ((part rest : List ℕ) → early ++ late ≡ part ++ rest → length early < length part
-    → ReadToEnd source source' input)
-    → source'.faults ≡ source.faults → Wrote (early ++ late) sink sink' ends
-    → Answered command source source' sink sink' ends
-written command source source' sink sink' input early late status.Ok whole part outcome in_time same wrote = record {
+pub written : (content : Option (List ℕ → List ℕ)) (command : TextCommand) (source source' : SourceSeen)
+    (sink sink' : SinkSeen) (input early late : List ℕ) (ends : Status)
+    → ReadsWhole content command source source' input → ReadsPart command source source' input
+    → IsOutput command input early late → source'.faults ≡ source.faults → Wrote (early ++ late) sink sink' ends
+    → Answered content command source source' sink sink' ends
+written content command source source' sink sink' input early late status.Ok whole part outcome same wrote = record {
   spelled = λ is. absurd (cc);
   ok = λ is. record { input = input; early = early; late = late; read = whole; outcome = outcome; written = wrote.0 };
   broke = λ other. absurd (other refl);
+  unread = λ is. absurd (cc);
+  refused = λ fault is. absurd (cc);
   read = λ is. absurd (cc);
   read_same = λ other. same;
   write = λ is. absurd (cc);
   write_same = λ other. wrote.1;
+  write_late = λ is. absurd (cc);
+  reads = λ is. absurd (cc);
+  read_reads = λ is. absurd (cc);
   long = λ is. absurd (cc);
-  over = λ from. absurd (whole_is_few command source source' input whole from);
+  over = λ from. absurd (whole_is_few content command source source' input whole from);
 }
-written command source source' sink sink' input early late status.WriteFault whole part outcome in_time same wrote =
+written content command source source' sink sink' input early late status.WriteFault whole part outcome same wrote =
     record {
       spelled = λ is. absurd (cc);
       ok = λ is. absurd (cc);
@@ -90,69 +106,69 @@ written command source source' sink sink' input early late status.WriteFault who
         outcome = outcome;
         front = (wrote.0.1, wrote.0.2);
         written = wrote.0.3;
-        past = in_time wrote.0.0 wrote.0.1 wrote.0.2;
+        past = λ longer. whole;
       };
+      unread = λ is. absurd (cc);
+      refused = λ fault is. absurd (cc);
       read = λ is. absurd (cc);
       read_same = λ other. same;
       write = λ is. wrote.1;
       write_same = λ other. absurd (other refl);
+      write_late = λ is. whole_is_configured content command source source' input whole;
+      reads = λ is. absurd (cc);
+      read_reads = λ is. absurd (cc);
       long = λ is. absurd (cc);
-      over = λ from. absurd (whole_is_few command source source' input whole from);
+      over = λ from. absurd (whole_is_few content command source source' input whole from);
     }
-written command source source' sink sink' input early late status.Usage whole part outcome in_time same wrote =
+written content command source source' sink sink' input early late status.Usage whole part outcome same wrote =
     absurd wrote
-written command source source' sink sink' input early late status.ReadFault whole part outcome in_time same wrote =
+written content command source source' sink sink' input early late status.ConfigRead whole part outcome same wrote =
     absurd wrote
-written command source source' sink sink' input early late status.NoMemory whole part outcome in_time same wrote =
+written content command source source' sink sink' input early late (status.ConfigRefused fault) whole part outcome same
+    wrote = absurd wrote
+written content command source source' sink sink' input early late status.ReadFault whole part outcome same wrote =
     absurd wrote
-written command source source' sink sink' input early late status.InputLong whole part outcome in_time same wrote =
+written content command source source' sink sink' input early late status.NoMemory whole part outcome same wrote =
     absurd wrote
-
-none_longer : (text part rest : List ℕ) → text ++ [] ≡ part ++ rest → length text < length part → ⊥
-none_longer text part rest is longer = absurd (omega (
-  arith,
-  longer,
-  ap length is,
-  length-append part rest,
-  length-append text [],
-))
+written content command source source' sink sink' input early late status.InputLong whole part outcome same wrote =
+    absurd wrote
 
 -- a command that writes a text of its own
-pub text_written : (command : TextCommand) (source : SourceSeen) (sink sink' : SinkSeen) (text : List ℕ) (ends : Status)
-    → ReadsWhole command source source [] → ReadsPart command source source [] → IsOutput command [] text []
-    → Wrote text sink sink' ends
-    → Answered command source source sink sink' ends
-text_written command source sink sink' text ends whole part outcome wrote =
+pub text_written : (content : Option (List ℕ → List ℕ)) (command : TextCommand) (source : SourceSeen)
+    (sink sink' : SinkSeen) (text : List ℕ) (ends : Status) → ReadsWhole content command source source []
+    → ReadsPart command source source [] → IsOutput command [] text [] → Wrote text sink sink' ends
+    → Answered content command source source sink sink' ends
+text_written content command source sink sink' text ends whole part outcome wrote =
     let Of : List ℕ → Type 0 = λ all. Wrote all sink sink' ends in
-    written command source source sink sink' [] text [] ends whole part outcome
-    (λ front rest is longer. absurd (none_longer text front rest is longer)) refl
+    written content command source source sink sink' [] text [] ends whole part outcome refl
     (subst Of (sym (append-nil text)) wrote)
 
 -- `encode` that read its input and wrote the output
-pub encoding_written : (side : Side) (source source' : SourceSeen) (sink sink' : SinkSeen) (input text : List ℕ)
-    (ends : Status) → ReadToEnd source source' input → IsEncoding side input text → source'.faults ≡ source.faults
-    → Wrote text sink sink' ends → Answered (Encode side) source source' sink sink' ends
-encoding_written side source source' sink sink' input text ends whole encoding same wrote =
+pub encoding_written : (content : Option (List ℕ → List ℕ)) (side : Side) (source source' : SourceSeen)
+    (sink sink' : SinkSeen) (input text : List ℕ) (ends : Status) → ReadToEnd source source' input
+    → IsEncoding side input text → source'.faults ≡ source.faults → Wrote text sink sink' ends
+    → Answered content (Encode side) source source' sink sink' ends
+encoding_written content side source source' sink sink' input text ends whole encoding same wrote =
     let parts = parted side input text encoding in
     let Of : List ℕ → Type 0 = λ all. Wrote all sink sink' ends in
-    written (Encode side) source source' sink sink' input parts.early parts.late ends whole
-    (part_of_whole source source' input whole) parts.outcome (λ part rest is longer. whole) same
-    (subst Of parts.output_is wrote)
+    written content (Encode side) source source' sink sink' input parts.early parts.late ends whole
+    (part_of_whole source source' input whole) parts.outcome same (subst Of parts.output_is wrote)
 
 -- `parse` that read its input and wrote the output
-pub parsing_written : (source source' : SourceSeen) (sink sink' : SinkSeen) (input text : List ℕ) (ends : Status)
-    → ReadToEnd source source' input → IsParsing input text → source'.faults ≡ source.faults
-    → Wrote text sink sink' ends → Answered Parse source source' sink sink' ends
-parsing_written source source' sink sink' input text ends whole parsing same wrote =
+pub parsing_written : (content : Option (List ℕ → List ℕ)) (source source' : SourceSeen) (sink sink' : SinkSeen)
+    (input text : List ℕ) (ends : Status) → ReadToEnd source source' input → IsParsing input text
+    → source'.faults ≡ source.faults → Wrote text sink sink' ends
+    → Answered content Parse source source' sink sink' ends
+parsing_written content source source' sink sink' input text ends whole parsing same wrote =
     let Of : List ℕ → Type 0 = λ all. Wrote all sink sink' ends in
-    written Parse source source' sink sink' input text [] ends whole (part_of_whole source source' input whole)
-    (parsing, refl) (λ part rest is longer. whole) same (subst Of (sym (append-nil text)) wrote)
+    written content Parse source source' sink sink' input text [] ends whole (part_of_whole source source' input whole)
+    (parsing, refl) same (subst Of (sym (append-nil text)) wrote)
 
 -- a command that wrote nothing
-nothing_written : (command : TextCommand) (source source' : SourceSeen) (sink : SinkSeen) (input early late : List ℕ)
-    → ReadsPart command source source' input → IsOutput command input early late
-    → Broke command source source' sink sink
-nothing_written command source source' sink input early late part outcome = record {
+pub nothing_written : (content : Option (List ℕ → List ℕ)) (command : TextCommand) (source source' : SourceSeen)
+    (sink : SinkSeen) (input early late : List ℕ) → ReadsPart command source source' input
+    → IsOutput command input early late → Broke content command source source' sink sink
+nothing_written content command source source' sink input early late part outcome = record {
   input = input;
   early = early;
   late = late;
@@ -165,57 +181,77 @@ nothing_written command source source' sink input early late part outcome = reco
 }
 
 -- a command whose input was left before its end
-pub stopped : (command : TextCommand) (source source' : SourceSeen) (sink : SinkSeen) (input early late : List ℕ)
-    (ends : Status) → ReadsPart command source source' input → IsOutput command input early late
-    → IsLeft source source' ends → Answered command source source' sink sink ends
-stopped command source source' sink input early late status.NoMemory part outcome same = record {
+pub stopped : (content : Option (List ℕ → List ℕ)) (command : TextCommand) (source source' : SourceSeen)
+    (sink : SinkSeen) (input early late : List ℕ) (ends : Status) → ReadsInput command
+    → ReadsPart command source source' input → IsOutput command input early late → IsLeft source source' ends
+    → Answered content command source source' sink sink ends
+stopped content command source source' sink input early late status.NoMemory reads part outcome same = record {
   spelled = λ is. absurd (cc);
   ok = λ is. absurd (cc);
-  broke = λ other. nothing_written command source source' sink input early late part outcome;
+  broke = λ other. nothing_written content command source source' sink input early late part outcome;
+  unread = λ is. absurd (cc);
+  refused = λ fault is. absurd (cc);
   read = λ is. absurd (cc);
   read_same = λ other. same;
   write = λ is. absurd (cc);
   write_same = λ other. refl;
+  write_late = λ is. absurd (cc);
+  reads = λ is. reads;
+  read_reads = λ is. reads;
   long = λ is. absurd (cc);
   over = λ from. inr (inr refl);
 }
-stopped command source source' sink input early late status.ReadFault part outcome counts = record {
+stopped content command source source' sink input early late status.ReadFault reads part outcome counts = record {
   spelled = λ is. absurd (cc);
   ok = λ is. absurd (cc);
-  broke = λ other. nothing_written command source source' sink input early late part outcome;
+  broke = λ other. nothing_written content command source source' sink input early late part outcome;
+  unread = λ is. absurd (cc);
+  refused = λ fault is. absurd (cc);
   read = λ is. counts;
   read_same = λ other. absurd (other refl);
   write = λ is. absurd (cc);
   write_same = λ other. refl;
+  write_late = λ is. absurd (cc);
+  reads = λ is. reads;
+  read_reads = λ is. reads;
   long = λ is. absurd (cc);
   over = λ from. inr (inl refl);
 }
-stopped command source source' sink input early late status.InputLong part outcome left = record {
+stopped content command source source' sink input early late status.InputLong reads part outcome left = record {
   spelled = λ is. absurd (cc);
   ok = λ is. absurd (cc);
-  broke = λ other. nothing_written command source source' sink input early late part outcome;
+  broke = λ other. nothing_written content command source source' sink input early late part outcome;
+  unread = λ is. absurd (cc);
+  refused = λ fault is. absurd (cc);
   read = λ is. absurd (cc);
   read_same = λ other. left.0;
   write = λ is. absurd (cc);
   write_same = λ other. refl;
+  write_late = λ is. absurd (cc);
+  reads = λ is. reads;
+  read_reads = λ is. reads;
   long = λ is. left.1;
   over = λ from. inl refl;
 }
-stopped command source source' sink input early late status.Ok part outcome left = absurd left
-stopped command source source' sink input early late status.Usage part outcome left = absurd left
-stopped command source source' sink input early late status.WriteFault part outcome left = absurd left
+stopped content command source source' sink input early late status.Ok reads part outcome left = absurd left
+stopped content command source source' sink input early late status.Usage reads part outcome left = absurd left
+stopped content command source source' sink input early late status.WriteFault reads part outcome left = absurd left
+stopped content command source source' sink input early late status.ConfigRead reads part outcome left = absurd left
+stopped content command source source' sink input early late (status.ConfigRefused fault) reads part outcome left =
+    absurd left
 
 -- `encode` whose input was left before its end
-pub encoding_stopped : EndIsSpelled Ipv4 → (side : Side) (source source' : SourceSeen) (sink : SinkSeen)
-    (input : List ℕ) (ends : Status) → ReadPart source source' input → IsLeft source source' ends
-    → Answered (Encode side) source source' sink sink ends
-encoding_stopped law side source source' sink input ends part left =
+pub encoding_stopped : EndIsSpelled Ipv4 → (content : Option (List ℕ → List ℕ)) (side : Side)
+    (source source' : SourceSeen) (sink : SinkSeen) (input : List ℕ) (ends : Status) → ReadPart source source' input
+    → IsLeft source source' ends → Answered content (Encode side) source source' sink sink ends
+encoding_stopped law content side source source' sink input ends part left =
     let some = some_encoding law side input in
-    stopped (Encode side) source source' sink input some.0 (last_text marker) ends part some.1 left
+    stopped content (Encode side) source source' sink input some.0 (last_text marker) ends tt part some.1 left
 
 -- `parse` whose input was left before its end
-pub parsing_stopped : (source source' : SourceSeen) (sink : SinkSeen) (input : List ℕ) (ends : Status)
-    → ReadPart source source' input → IsLeft source source' ends → Answered Parse source source' sink sink ends
-parsing_stopped source source' sink input ends part left =
+pub parsing_stopped : (content : Option (List ℕ → List ℕ)) (source source' : SourceSeen) (sink : SinkSeen)
+    (input : List ℕ) (ends : Status) → ReadPart source source' input → IsLeft source source' ends
+    → Answered content Parse source source' sink sink ends
+parsing_stopped content source source' sink input ends part left =
     let some = some_parsing input in
-    stopped Parse source source' sink input some.0 [] ends part (some.1, refl) left
+    stopped content Parse source source' sink input some.0 [] ends tt part (some.1, refl) left

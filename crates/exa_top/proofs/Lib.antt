@@ -9,3 +9,6 @@ pub mod OutputLemmas
 pub mod WordLemmas
 pub mod ZippedLemmas
 pub mod ParsedLemmas
+pub mod CheckedLemmas
+pub mod CompleteLemmas
+pub mod ConfiguredLemmas

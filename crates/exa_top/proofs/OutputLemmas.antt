@@ -1,6 +1,6 @@
 -- Outputs that belong to what a command read.
 use Rattle.std.proofs.Common.{ℕ, ◌≡◌, List, [], ◌∷◌, ◌++◌, Option, None, refl, ap, cond, Bool, true, false}
-use Rattle.std.proofs.Common.{unwrap_or, ◌==◌, sym, Result, Err, length, ltb, ltb-true, ltb-false, ◌<◌, ◌≤◌, arith}
+use Rattle.std.proofs.Common.{unwrap_or, ◌==◌, sym, Result, Err, length, ltb, ltb-true, ltb-false, arith}
 use Rattle.std.specs.List.{AllZip, flat_map}
 use Rattle.std.specs.Option.{option_map}
 use Rattle.route_values.specs.declared.addr.Family.TheVariants.{Ipv4}

@@ -2,6 +2,7 @@ pub mod Commands
 pub mod Answers
 pub mod Encoding
 pub mod Parsing
+pub mod Configured
 pub mod Words
 pub mod Top
 pub mod Slots

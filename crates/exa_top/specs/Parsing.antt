@@ -1,5 +1,5 @@
 -- What `parse` writes for what it reads.
-use Rattle.std.specs.Prelude.{ℕ, ◌≡◌, codes, decimal, List, ◌∷◌, ◌++◌, Result, Ok, Err}
+use Rattle.std.specs.Prelude.{ℕ, ◌≡◌, codes, decimal, List, ◌++◌, Result, Ok, Err}
 use Rattle.std.specs.List.{flat_map, AllZip}
 use Rattle.text_forms.specs.Lines.{lines, Line as Given}
 use Rattle.route_grammar.specs.declared.fault.LineFault.{LineFault}

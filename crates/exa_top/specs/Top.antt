@@ -1,16 +1,21 @@
--- What a text command does to its input and its output. Each device is seen before a call and after it; what is seen
--- after the call has a prime.
-use Rattle.std.specs.Prelude.{ℕ, ◌≡◌, ◌⊎◌, ◌+◌, ◌^◌, ◌<◌, ◌≤◌, codes, true, List, [], ◌++◌, length}
+-- What a text command does to its input and its output, and what it takes from files. Each device is seen before a call
+-- and after it; what is seen after the call has a prime. Of files the content by path is seen, where it is told.
+use Rattle.std.specs.Prelude.{ℕ, ◌≡◌, ◌⊎◌, ◌+◌, ◌^◌, ◌<◌, ◌≤◌, codes, true, List, [], ◌++◌, length, ⊤}
 use Rattle.std.specs.List.{flat_map}
 use Rattle.std.specs.declared.option.Option.{Option}
 use Rattle.std.specs.declared.option.Option.TheVariants.{Some, None}
 use Rattle.outside.specs.Seen.{SourceSeen, SinkSeen}
+use Rattle.config_model.specs.declared.fault.ConfigFault.{ConfigFault}
+use Rattle.config_model.specs.declared.slots.Slots.{Slots}
+use Rattle.config_model.specs.Sections.{Sections}
+use Rattle.config_reader.specs.Files.{Configures, IsFirstFault}
 use Rattle.outside.specs.Told.{Grows, Shrinks, AreLeft, AreLeftFrom, CountsOne}
 use Rattle.exa_top.specs.declared.status.Status.{Status}
 use Rattle.exa_top.specs.declared.status.Status.TheVariants as status
 use Rattle.exa_top.specs.declared.words.TextCommand.{TextCommand}
-use Rattle.exa_top.specs.declared.words.TextCommand.TheVariants.{Encode, Parse, Help, Version}
+use Rattle.exa_top.specs.declared.words.TextCommand.TheVariants.{Encode, Check, Parse, Help, Version}
 use Rattle.exa_top.specs.Answers.{reply_text}
+use Rattle.exa_top.specs.Configured.{AreTextSlots, IsConfigAt, IsFaultAt}
 use Rattle.exa_top.specs.Encoding.{IsEncoding}
 use Rattle.exa_top.specs.Parsing.{IsParsing}
 use Rattle.exa_top.specs.Words.{IsCommand}
@@ -23,24 +28,76 @@ input_limit = 2 ^ 40
 abbrev pub version_text : List ℕ
 version_text = codes "exabgpd 0.1.0\n"
 
+-- what `check` writes
+abbrev pub checked_text : List ℕ
+checked_text = codes "ok\n"
+
 -- what `--help` writes
 abbrev pub help_text : List ℕ
 help_text =
     codes "usage: exabgpd encode LOCAL_AS PEER_AS LOCAL_IP\n"
     ++ codes "           reads announce and withdraw lines, writes replies and UPDATE messages\n"
+    ++ codes "       exabgpd check CONFIG\n"
+    ++ codes "           reads a configuration file, writes ok or says what its first fault is\n"
     ++ codes "       exabgpd parse\n"
     ++ codes "           reads command lines, writes for each whether it reads or where its first fault is\n"
     ++ codes "       exabgpd --help\n" ++ codes "           writes this text\n"
     ++ codes "       exabgpd --version\n" ++ codes "           writes the name and the version\n"
 
--- The output that belongs to a command and what it read: what may be written while the input is read, and what only
--- after its end. Replies to lines come early, and the messages late.
+-- The output that belongs to a command and what it read: what may be written while that is read, and what only after
+-- its end. Replies to lines come early, and the messages late, and so does the line of `check`.
 abbrev pub IsOutput : TextCommand → List ℕ → List ℕ → List ℕ → Type 0
 IsOutput (Encode side) input early late =
     (whole : IsEncoding side input (early ++ late)) × (early ≡ flat_map reply_text whole.entries)
+IsOutput (Check path) input early late = (early ≡ []) × (late ≡ checked_text)
 IsOutput Parse input early late = IsParsing input early × (late ≡ [])
 IsOutput Help input early late = (early ≡ help_text) × (late ≡ [])
 IsOutput Version input early late = (early ≡ version_text) × (late ≡ [])
+
+-- the file that a command names, if it names one, is a configuration for the slots of a text command
+abbrev pub IsConfigured : Option (List ℕ → List ℕ) → TextCommand → Type 0
+IsConfigured content (Check path) =
+    (slots : Slots) × AreTextSlots slots × (config : Sections) × IsConfigAt content path.now slots config
+IsConfigured content _ = ⊤
+
+-- a command names a file, whose bytes have this first fault
+abbrev pub IsRefusedFor : Option (List ℕ → List ℕ) → TextCommand → ConfigFault → Type 0
+IsRefusedFor content (Check path) fault =
+    (slots : Slots) × AreTextSlots slots × IsFaultAt content path.now slots fault
+IsRefusedFor content _ fault = ⊥
+
+-- the content of a path is told, and is a configuration for the slots of a text command
+abbrev pub IsToldConfig : Option (List ℕ → List ℕ) → List ℕ → Type 0
+IsToldConfig None path = ⊥
+IsToldConfig (Some content) path =
+    (slots : Slots) → AreTextSlots slots → (config : Sections) × Configures (content path) slots config
+
+-- the same of the file that a command names, if it names one
+abbrev pub HasConfig : Option (List ℕ → List ℕ) → TextCommand → Type 0
+HasConfig content (Check path) = IsToldConfig content path.now
+HasConfig content _ = ⊤
+
+-- the content of a path is told, and has this first fault
+abbrev pub IsToldFault : Option (List ℕ → List ℕ) → List ℕ → ConfigFault → Type 0
+IsToldFault None path fault = ⊥
+IsToldFault (Some content) path fault =
+    (slots : Slots) → AreTextSlots slots → IsFirstFault (content path) slots fault
+
+-- the same of the file that a command names
+abbrev pub HasFault : Option (List ℕ → List ℕ) → TextCommand → ConfigFault → Type 0
+HasFault content (Check path) fault = IsToldFault content path.now fault
+HasFault content _ fault = ⊥
+
+-- a command names a file
+abbrev pub NamesFile : TextCommand → Type 0
+NamesFile (Check path) = ⊤
+NamesFile _ = ⊥
+
+-- a command reads its input
+abbrev pub ReadsInput : TextCommand → Type 0
+ReadsInput (Encode side) = ⊤
+ReadsInput Parse = ⊤
+ReadsInput _ = ⊥
 
 -- A source was read to its end, which came before the limit. Where it told what it had left, this was all of it.
 pub record ReadToEnd (source source' : SourceSeen) (bytes : List ℕ) : Type 0 where
@@ -61,32 +118,37 @@ pub record ReadNothing (source source' : SourceSeen) (bytes : List ℕ) : Type 0
   pub same : source' ≡ source
   pub none : bytes ≡ []
 
--- what a command reads that ends well: `encode` and `parse` their input to the end, the others nothing
-abbrev pub ReadsWhole : TextCommand → SourceSeen → SourceSeen → List ℕ → Type 0
-ReadsWhole (Encode side) source source' bytes = ReadToEnd source source' bytes
-ReadsWhole Parse source source' bytes = ReadToEnd source source' bytes
-ReadsWhole Help source source' bytes = ReadNothing source source' bytes
-ReadsWhole Version source source' bytes = ReadNothing source source' bytes
+-- what a command reads that ends well: `encode` and `parse` their input to the end, `check` its file, others nothing
+abbrev pub ReadsWhole : Option (List ℕ → List ℕ) → TextCommand → SourceSeen → SourceSeen → List ℕ → Type 0
+ReadsWhole content (Encode side) source source' bytes = ReadToEnd source source' bytes
+ReadsWhole content (Check path) source source' bytes =
+    ReadNothing source source' bytes × IsConfigured content (Check path)
+ReadsWhole content Parse source source' bytes = ReadToEnd source source' bytes
+ReadsWhole content Help source source' bytes = ReadNothing source source' bytes
+ReadsWhole content Version source source' bytes = ReadNothing source source' bytes
 
--- what a command may have read that ends in another way
+-- what a command may have read of its input that ends in another way
 abbrev pub ReadsPart : TextCommand → SourceSeen → SourceSeen → List ℕ → Type 0
 ReadsPart (Encode side) source source' bytes = ReadPart source source' bytes
+ReadsPart (Check path) source source' bytes = ReadNothing source source' bytes
 ReadsPart Parse source source' bytes = ReadPart source source' bytes
 ReadsPart Help source source' bytes = ReadNothing source source' bytes
 ReadsPart Version source source' bytes = ReadNothing source source' bytes
 
--- a command read its whole input and wrote the whole output that belongs to it
-pub record Ran (command : TextCommand) (source source' : SourceSeen) (sink sink' : SinkSeen) : Type 0 where
+-- a command read all that it reads and wrote the whole output that belongs to it
+pub record Ran (content : Option (List ℕ → List ℕ)) (command : TextCommand) (source source' : SourceSeen)
+    (sink sink' : SinkSeen) : Type 0 where
   pub input : List ℕ
   pub early : List ℕ
   pub late : List ℕ
-  pub read : ReadsWhole command source source' input
+  pub read : ReadsWhole content command source source' input
   pub outcome : IsOutput command input early late
   pub written : Grows sink.taken sink'.taken (early ++ late)
 
 -- A command read a part of its input and wrote a front part of the output that belongs to what it read. It wrote more
--- than what may be written early only where it read its input to the end.
-pub record Broke (command : TextCommand) (source source' : SourceSeen) (sink sink' : SinkSeen) : Type 0 where
+-- than what may be written early only where it read all that it reads.
+pub record Broke (content : Option (List ℕ → List ℕ)) (command : TextCommand) (source source' : SourceSeen)
+    (sink sink' : SinkSeen) : Type 0 where
   pub input : List ℕ
   pub early : List ℕ
   pub late : List ℕ
@@ -95,7 +157,7 @@ pub record Broke (command : TextCommand) (source source' : SourceSeen) (sink sin
   pub outcome : IsOutput command input early late
   pub front : (rest : List ℕ) × (early ++ late ≡ part ++ rest)
   pub written : Grows sink.taken sink'.taken part
-  pub past : length early < length part → ReadToEnd source source' input
+  pub past : length early < length part → ReadsWhole content command source source' input
 
 -- a source gave as many bytes as the limit, had as many left, and didn't end
 pub record GaveLimit (limit : ℕ) (source source' : SourceSeen) : Type 0 where
@@ -122,28 +184,67 @@ GaveFrom limit (Some was) (Some now) = length was + limit ≤ length now
 abbrev pub IsOverrun : Status → Type 0
 IsOverrun ends = (ends ≡ status.InputLong) ⊎ (ends ≡ status.ReadFault) ⊎ (ends ≡ status.NoMemory)
 
+-- a command ends so only before it reads its input and writes
+abbrev pub EndsAtOnce : Status → Type 0
+EndsAtOnce status.Usage = ⊤
+EndsAtOnce status.ConfigRead = ⊤
+EndsAtOnce (status.ConfigRefused fault) = ⊤
+EndsAtOnce _ = ⊥
+
 -- the status of a command that was run, and what its devices then show
-pub record Answered (command : TextCommand) (source source' : SourceSeen) (sink sink' : SinkSeen)
-    (ends : Status) : Type 0 where
+pub record Answered (content : Option (List ℕ → List ℕ)) (command : TextCommand) (source source' : SourceSeen)
+    (sink sink' : SinkSeen) (ends : Status) : Type 0 where
   pub spelled : ¬ (ends ≡ status.Usage)
-  pub ok : ends ≡ status.Ok → Ran command source source' sink sink'
-  pub broke : ¬ (ends ≡ status.Ok) → Broke command source source' sink sink'
+  pub ok : ends ≡ status.Ok → Ran content command source source' sink sink'
+  pub broke : ¬ (ends ≡ status.Ok) → Broke content command source source' sink sink'
+  pub unread : ends ≡ status.ConfigRead → NamesFile command
+  pub refused : (fault : ConfigFault) → ends ≡ status.ConfigRefused fault → IsRefusedFor content command fault
   pub read : ends ≡ status.ReadFault → CountsOne source.faults source'.faults
   pub read_same : ¬ (ends ≡ status.ReadFault) → source'.faults ≡ source.faults
   pub write : ends ≡ status.WriteFault → CountsOne sink.faults sink'.faults
   pub write_same : ¬ (ends ≡ status.WriteFault) → sink'.faults ≡ sink.faults
+  pub write_late : ends ≡ status.WriteFault → IsConfigured content command
+  pub reads : ends ≡ status.InputLong → ReadsInput command
+  pub read_reads : ends ≡ status.ReadFault → ReadsInput command
   pub long : ends ≡ status.InputLong → GaveLimit input_limit source source'
   pub over : GaveFrom input_limit source.given source'.given → IsOverrun ends
 
--- the words spell a command, which read its whole input and wrote its whole output
-abbrev pub Finished : List (List ℕ) → SourceSeen → SourceSeen → SinkSeen → SinkSeen → Type 0
-Finished words source source' sink sink' =
-    (command : TextCommand) × IsCommand words command × Ran command source source' sink sink'
+-- the words spell a command, which read all that it reads and wrote its whole output
+abbrev pub Finished :
+    List (List ℕ) → Option (List ℕ → List ℕ) → SourceSeen → SourceSeen → SinkSeen → SinkSeen → Type 0
+Finished words content source source' sink sink' =
+    (command : TextCommand) × IsCommand words command × Ran content command source source' sink sink'
 
 -- the words spell a command, which read a part of its input and wrote a front part of its output
-abbrev pub Began : List (List ℕ) → SourceSeen → SourceSeen → SinkSeen → SinkSeen → Type 0
-Began words source source' sink sink' =
-    (command : TextCommand) × IsCommand words command × Broke command source source' sink sink'
+abbrev pub Began :
+    List (List ℕ) → Option (List ℕ → List ℕ) → SourceSeen → SourceSeen → SinkSeen → SinkSeen → Type 0
+Began words content source source' sink sink' =
+    (command : TextCommand) × IsCommand words command × Broke content command source source' sink sink'
+
+-- the words spell a command that names a file, whose bytes have this first fault
+abbrev pub Refuses : List (List ℕ) → Option (List ℕ → List ℕ) → ConfigFault → Type 0
+Refuses words content fault =
+    (command : TextCommand) × IsCommand words command × IsRefusedFor content command fault
+
+-- the words spell a command that names a file
+abbrev pub NameFile : List (List ℕ) → Type 0
+NameFile words = (command : TextCommand) × IsCommand words command × NamesFile command
+
+-- the file of any command that the words spell, if it names one, is told and is a configuration
+abbrev pub HaveConfig : List (List ℕ) → Option (List ℕ → List ℕ) → Type 0
+HaveConfig words content = (command : TextCommand) → IsCommand words command → HasConfig content command
+
+-- any command that the words spell names a file that is told and has this first fault
+abbrev pub HaveFault : List (List ℕ) → Option (List ℕ → List ℕ) → ConfigFault → Type 0
+HaveFault words content fault = (command : TextCommand) → IsCommand words command → HasFault content command fault
+
+-- the words spell a command that reads its input
+abbrev pub ReadInput : List (List ℕ) → Type 0
+ReadInput words = (command : TextCommand) × IsCommand words command × ReadsInput command
+
+-- the words spell a command whose file, if it names one, is a configuration
+abbrev pub AreConfigured : List (List ℕ) → Option (List ℕ → List ℕ) → Type 0
+AreConfigured words content = (command : TextCommand) × IsCommand words command × IsConfigured content command
 
 -- a source tells what it has left, and that is fewer bytes than the limit
 abbrev pub IsLeftShort : ℕ → Option (List ℕ) → Type 0

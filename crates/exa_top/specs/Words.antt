@@ -5,7 +5,7 @@ use Rattle.route_values.specs.declared.settings.Side.{Side}
 use Rattle.text_forms.specs.Addresses.{IsIpv4}
 use Rattle.text_forms.specs.Numbers.{IsAsn}
 use Rattle.exa_top.specs.declared.words.TextCommand.{TextCommand}
-use Rattle.exa_top.specs.declared.words.TextCommand.TheVariants.{Encode, Parse, Help, Version}
+use Rattle.exa_top.specs.declared.words.TextCommand.TheVariants.{Encode, Check, Parse, Help, Version}
 
 -- `encode LOCAL_AS PEER_AS LOCAL_IP`
 pub record IsEncode (words : List (List ℕ)) (side : Side) : Type 0 where
@@ -22,6 +22,7 @@ pub record IsEncode (words : List (List ℕ)) (side : Side) : Type 0 where
 -- the command that words spell
 abbrev pub IsCommand : List (List ℕ) → TextCommand → Type 0
 IsCommand words (Encode side) = IsEncode words side
+IsCommand words (Check path) = words ≡ codes "check" ∷ path.now ∷ []
 IsCommand words Parse = words ≡ codes "parse" ∷ []
 IsCommand words Help = words ≡ codes "--help" ∷ []
 IsCommand words Version = words ≡ codes "--version" ∷ []

@@ -1,14 +1,26 @@
 //! How a command ends.
-ghost use Rattle.std.specs.Prelude.{◌≡◌};
-ghost use Rattle.std.specs.Option.{option_copied};
+ghost use Rattle.std.specs.Prelude.{◌≡◌, ◌+◌, ◌≤◌, ◌++◌, length};
+ghost use Rattle.arrayvec.specs.ArrayVec.{array_vec_len};
+ghost use Rattle.exa_top.specs.Status.{refusal_line};
+
+use arrayvec::ArrayVec;
+use config_model::ConfigFault;
+use text_forms::put_u32;
+
+/// How many bytes the buffer has that a status's line is put into.
+pub const STATUS_ROOM: usize = 64;
 
 /// How a command ended. The number is the exit status of the program.
 #[derive(Clone, Copy, Debug, PartialEq, Eq)]
 pub enum Status {
-    /// The input was read to its end and everything was written.
+    /// What the command reads was read to its end, and everything was written.
     Ok,
     /// The words spell no command.
     Usage,
+    /// The configuration wasn't read: its file wasn't opened, or a read of it failed.
+    ConfigRead,
+    /// The file is no configuration, and this is its first fault.
+    ConfigRefused(ConfigFault),
     /// A read of the input failed.
     ReadFault,
     /// A write to the output failed.
@@ -20,7 +32,7 @@ pub enum Status {
 }
 
 impl Status {
-    ghost use Rattle.exa_top.specs.Status.{number_of, text_of};
+    ghost use Rattle.exa_top.specs.Status.{number_of, line_of};
 
     /// The exit status of the program.
     pub fn number(self) -> u8
@@ -29,6 +41,8 @@ impl Status {
         match self {
             Status::Ok => 0,
             Status::Usage => 2,
+            Status::ConfigRead => 3,
+            Status::ConfigRefused(_) => 4,
             Status::ReadFault => 6,
             Status::WriteFault => 7,
             Status::NoMemory => 9,
@@ -36,17 +50,43 @@ impl Status {
         }
     }
 
-    /// The text for standard error, or None where all went well.
-    pub fn text(self) -> Option<&'static str>
-        ensures { option_copied result ≡ text_of self }
+    /// Puts the line for standard error in the place of what the buffer holds: nothing where all went well.
+    pub fn put_line(self, out: &mut ArrayVec<u8, STATUS_ROOM>)
+        ensures { out.new.items ≡ line_of self }
     {
+        out.clear();
         match self {
-            Status::Ok => None,
-            Status::Usage => Some("usage"),
-            Status::ReadFault => Some("read fault"),
-            Status::WriteFault => Some("write fault"),
-            Status::NoMemory => Some("no memory"),
-            Status::InputLong => Some("input too long"),
+            Status::Ok => {}
+            Status::Usage => put(b"exabgp: usage\n", out),
+            Status::ConfigRead => put(b"exabgp: configuration not read\n", out),
+            Status::ConfigRefused(fault) => put_refusal(&fault, out),
+            Status::ReadFault => put(b"exabgp: read fault\n", out),
+            Status::WriteFault => put(b"exabgp: write fault\n", out),
+            Status::NoMemory => put(b"exabgp: no memory\n", out),
+            Status::InputLong => put(b"exabgp: input too long\n", out),
         }
     }
+}
+
+// Puts the line of a refused configuration.
+fn put_refusal(fault: &ConfigFault, out: &mut ArrayVec<u8, STATUS_ROOM>)
+    requires { array_vec_len out.old ≡ 0 }
+    ensures { out.new.items ≡ out.old.items ++ refusal_line fault.now }
+{
+    put(b"exabgp: configuration ", out);
+    put_u32(fault.line, out);
+    put(b":", out);
+    put_u32(fault.column, out);
+    put(b" ", out);
+    put(fault.kind.word().as_bytes(), out);
+    put(b"\n", out);
+}
+
+// Puts bytes for which there is room.
+fn put(piece: &[u8], out: &mut ArrayVec<u8, STATUS_ROOM>)
+    requires { array_vec_len out.old + length piece.now ≤ STATUS_ROOM }
+    ensures text { out.new.items ≡ out.old.items ++ piece.now }
+    ensures len { array_vec_len out.new ≡ array_vec_len out.old + length piece.now }
+{
+    let _ = out.try_extend_from_slice(piece);
 }

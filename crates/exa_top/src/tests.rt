@@ -1,7 +1,11 @@
 use super::*;
+use arrayvec::ArrayVec;
+use config_model::{ConfigFault, ConfigKind};
 use outside::{MemorySink, MemorySource, SureFiles};
 use std::alloc::Global;
 use std::test::Fail;
+
+mod checking;
 
 const ROUTE: &str = "announce route 10.0.0.0/24 next-hop 192.0.2.1\n";
 
@@ -196,10 +200,12 @@ fn help_and_version_write_their_texts(rt: HostRuntime) -> Result<(), Fail> {
 
 #[test]
 fn words_that_spell_no_command_are_usage_and_touch_nothing(rt: HostRuntime) -> Result<(), Fail> {
-    let table: [&[&str]; 8] = [
+    let table: [&[&str]; 10] = [
         &[],
         &["frob"],
         &["encode"],
+        &["check"],
+        &["check", "one.conf", "two.conf"],
         &["parse", "one.conf"],
         &["encode", "one.conf"],
         &["encode", "0", "65002", "192.0.2.9"],
@@ -287,17 +293,31 @@ fn memory_suffices_for_a_mebibyte_and_a_thousand_prefixes(rt: HostRuntime) -> Re
 }
 
 #[test]
-fn each_status_has_its_number_and_its_text(rt: HostRuntime) {
-    let table: [(Status, u8, Option<&str>); 6] = [
-        (Status::Ok, 0, None),
-        (Status::Usage, 2, Some("usage")),
-        (Status::ReadFault, 6, Some("read fault")),
-        (Status::WriteFault, 7, Some("write fault")),
-        (Status::NoMemory, 9, Some("no memory")),
-        (Status::InputLong, 10, Some("input too long")),
+fn each_status_has_its_number_and_its_line(rt: HostRuntime) -> Result<(), Fail> {
+    let fault = ConfigFault {
+        line: u32::MAX,
+        column: u32::MAX,
+        kind: ConfigKind::NoProcess,
+    };
+    let table: [(Status, u8, &str); 8] = [
+        (Status::Ok, 0, ""),
+        (Status::Usage, 2, "exabgp: usage\n"),
+        (Status::ConfigRead, 3, "exabgp: configuration not read\n"),
+        (
+            Status::ConfigRefused(fault),
+            4,
+            "exabgp: configuration 4294967295:4294967295 no-process\n",
+        ),
+        (Status::ReadFault, 6, "exabgp: read fault\n"),
+        (Status::WriteFault, 7, "exabgp: write fault\n"),
+        (Status::NoMemory, 9, "exabgp: no memory\n"),
+        (Status::InputLong, 10, "exabgp: input too long\n"),
     ];
-    for (status, number, text) in table {
-        assert_eq!(rt; status.number(), number);
-        assert!(rt; status.text() == text);
+    for (status, number, line) in table {
+        let mut text = ArrayVec::new();
+        status.put_line(&mut text);
+        assert_eq!(rt; status.number(), number, "{line}");
+        assert!(rt; text.as_slice() == line.as_bytes(), "{line}");
     }
+    Ok(())
 }

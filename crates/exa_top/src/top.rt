@@ -1,17 +1,25 @@
 //! The top call.
-ghost use Rattle.std.specs.Prelude.{◌≡◌, ◌⊎◌, List, ℕ, map, IfOk, IfErr, OnOk, OnErr};
-ghost use Rattle.exa_top.specs.Top.{Answered, Began, Finished, GaveFrom, GaveLimit, IsLeftShort};
-ghost use Rattle.exa_top.specs.Top.{IsLeft, IsOverrun, ReadPart, ReadToEnd, Wrote, input_limit};
+ghost use Rattle.std.specs.Prelude.{◌≡◌, ◌⊎◌, List, ℕ, Option, map, IfOk, IfErr, OnOk, OnErr};
+ghost use Rattle.config_model.specs.declared.fault.ConfigFault.{ConfigFault as Fault};
+ghost use Rattle.exa_top.specs.Top.{Answered, AreConfigured, Began, EndsAtOnce, Finished};
+ghost use Rattle.exa_top.specs.Top.{GaveFrom, GaveLimit, HaveConfig, HaveFault, IsLeft};
+ghost use Rattle.exa_top.specs.Top.{IsLeftShort, IsOverrun};
+ghost use Rattle.exa_top.specs.Top.{NameFile, NamesFile, ReadInput, ReadPart, ReadToEnd, Refuses};
+ghost use Rattle.exa_top.specs.Top.{Wrote, input_limit};
 ghost use Rattle.exa_top.specs.Words.{IsCommand};
 ghost use Rattle.exa_top.specs.declared.words.TextCommand.{TextCommand as Spelled};
-ghost use Rattle.exa_top.specs.declared.words.TextCommand.TheVariants.{Encode, Parse};
-ghost use Rattle.outside.specs.Seen.{source_seen, sink_seen};
+ghost use Rattle.exa_top.specs.declared.words.TextCommand.TheVariants.{Encode, Check, Parse};
+ghost use Rattle.outside.specs.Lent.{LendsNone};
+ghost use Rattle.outside.specs.Seen.{SourceSeen, source_seen, sink_seen};
 ghost use Rattle.outside.specs.Told.{CountsOne, Rose};
 
+use crate::configured::configured;
 use crate::encoding::encode_all;
 use crate::parsing::parse_all;
 use crate::status::Status;
 use crate::words::{TextCommand, text_command};
+use config_model::{MAX_HELPERS, MAX_PEERS, Slots};
+use config_reader::files_say_one;
 use outside::{Files, Sink, Source, Unread, read_all, write_all};
 use route_values::Side;
 use std::alloc::Global;
@@ -20,12 +28,23 @@ use update_grammar::written_is_spelled;
 // How many bytes of input are too many.
 const MAX_INPUT: usize = 1 << 40;
 
+// How many processes and neighbours a text command reads a configuration for.
+const TEXT_SLOTS: Slots = Slots {
+    helpers: MAX_HELPERS,
+    peers: MAX_PEERS,
+};
+
+// What `check` writes.
+const CHECKED: &[u8] = b"ok\n";
+
 // What `--version` writes.
 const VERSION: &[u8] = b"exabgpd 0.1.0\n";
 
 // What `--help` writes.
 const HELP: &[u8] = b"usage: exabgpd encode LOCAL_AS PEER_AS LOCAL_IP\n\
 \x20          reads announce and withdraw lines, writes replies and UPDATE messages\n\
+\x20      exabgpd check CONFIG\n\
+\x20          reads a configuration file, writes ok or says what its first fault is\n\
 \x20      exabgpd parse\n\
 \x20          reads command lines, writes for each whether it reads or where its first fault is\n\
 \x20      exabgpd --help\n\
@@ -38,12 +57,14 @@ const HELP: &[u8] = b"usage: exabgpd encode LOCAL_AS PEER_AS LOCAL_IP\n\
 /// `encode LOCAL_AS PEER_AS LOCAL_IP` reads its input to the end as command lines. It writes one line `done`,
 /// `error` or `error memory` for each line, in order, and then the UPDATE messages that leave at the neighbour what
 /// the lines say, each as a line `update 0 more HEX`; the last is the End-of-RIB marker, as `update 0 last HEX`.
+/// `check CONFIG` reads the file at this path as a configuration for 16 processes and 64 neighbours, and no input. It
+/// writes the line `ok`, or ends with `ConfigRefused` and the file's first fault.
 /// `parse` reads its input to the end as command lines. It writes for each line, in order, one line: `ok`, its first
 /// fault as `error token PLACE`, `error many PLACE LIMIT` or `error long`, or `error memory`.
 /// `--help` and `--version` write their texts. Any other words are `Usage`, and nothing is read or written.
 ///
 /// With another status than `Ok` the output is a front part of one that belongs to what was read. Messages come in it
-/// only where the input's end was met.
+/// only where the input's end was met. What was opened is given back, whatever the status.
 pub fn exabgp_text<F: Files, S: Source, K: Sink>(
     alloc: Global,
     words: &[&str],
@@ -56,22 +77,37 @@ pub fn exabgp_text<F: Files, S: Source, K: Sink>(
         → IsCommand (map (λ w. w.now) words.now) command → ⊥ }
     ensures only_usage { ((command : Spelled) → IsCommand (map (λ w. w.now) words.now) command → ⊥)
         → result ≡ Status.Usage }
-    ensures untouched { result ≡ Status.Usage
+    ensures untouched { EndsAtOnce result
         → (input.new ≡ input.old) × (output.new ≡ output.old) }
 
     // What was read and written.
-    ensures ok { result ≡ Status.Ok → Finished (map (λ w. w.now) words.now)
+    ensures ok { result ≡ Status.Ok → Finished (map (λ w. w.now) words.now) (F.content files.old)
         (source_seen S.given S.left S.ended S.faults input.old)
         (source_seen S.given S.left S.ended S.faults input.new)
         (sink_seen K.taken K.faults output.old) (sink_seen K.taken K.faults output.new) }
     ensures began { ¬ (result ≡ Status.Ok) → ¬ (result ≡ Status.Usage)
-        → Began (map (λ w. w.now) words.now)
+        → Began (map (λ w. w.now) words.now) (F.content files.old)
         (source_seen S.given S.left S.ended S.faults input.old)
         (source_seen S.given S.left S.ended S.faults input.new)
         (sink_seen K.taken K.faults output.old) (sink_seen K.taken K.faults output.new) }
-    ensures files { files.new ≡ files.old }
+
+    // What was opened is given back. Where the words name no file, none is opened.
+    ensures content { F.content files.new ≡ F.content files.old }
+    ensures back { LendsNone (F.lent files.old) (F.lent files.new) }
+    ensures unopened { (NameFile (map (λ w. w.now) words.now) → ⊥) → files.new ≡ files.old }
+
+    // A refusal is the first fault of the file, and nothing is written unless the file is a configuration.
+    ensures refused { (fault : Fault) → result ≡ Status.ConfigRefused fault
+        → Refuses (map (λ w. w.now) words.now) (F.content files.old) fault }
+    ensures named { result ≡ Status.ConfigRead → NameFile (map (λ w. w.now) words.now) }
+    ensures write_late { result ≡ Status.WriteFault
+        → AreConfigured (map (λ w. w.now) words.now) (F.content files.old) }
 
     // A fault's status counts one fault, and any other leaves the count.
+    ensures config { result ≡ Status.ConfigRead
+        → CountsOne (F.faults files.old) (F.faults files.new) }
+    ensures config_same { ¬ (result ≡ Status.ConfigRead)
+        → F.faults files.new ≡ F.faults files.old }
     ensures read { result ≡ Status.ReadFault
         → CountsOne (S.faults input.old) (S.faults input.new) }
     ensures read_same { ¬ (result ≡ Status.ReadFault) → S.faults input.new ≡ S.faults input.old }
@@ -87,44 +123,84 @@ pub fn exabgp_text<F: Files, S: Source, K: Sink>(
     ensures over { GaveFrom input_limit (S.given input.old) (S.given input.new)
         → IsOverrun result }
 
-    // A command is run to its end where the input ends in time and no device fails, if memory suffices.
+    // A file that has a first fault is refused for it, if memory suffices and nothing fails.
+    ensures refuses { (fault : Fault) (command : Spelled)
+        → IsCommand (map (λ w. w.now) words.now) command
+        → HaveFault (map (λ w. w.now) words.now) (F.content files.old) fault
+        → ¬ Rose (F.faults files.old) (F.faults files.new)
+        → (result ≡ Status.ConfigRefused fault) ⊎ (result ≡ Status.NoMemory) }
+
+    // A command is run to its end where its file is a configuration, the input that it reads ends in time and no device
+    // fails, if memory suffices.
     ensures complete { (command : Spelled) → IsCommand (map (λ w. w.now) words.now) command
-        → IsLeftShort input_limit (S.left input.old)
+        → HaveConfig (map (λ w. w.now) words.now) (F.content files.old)
+        → (ReadInput (map (λ w. w.now) words.now) → IsLeftShort input_limit (S.left input.old))
+        → ¬ Rose (F.faults files.old) (F.faults files.new)
         → ¬ Rose (S.faults input.old) (S.faults input.new)
         → ¬ Rose (K.faults output.old) (K.faults output.new)
         → (result ≡ Status.Ok) ⊎ (result ≡ Status.NoMemory) }
 {
-    // No command opens a file yet.
-    let _ = files;
+    // For the proof: by the law a file is one configuration or has one first fault.
+    files_say_one();
     match text_command(words) {
-        Some(command) => run(alloc, command, input, output),
+        Some(command) => run(alloc, command, files, input, output),
         None => Status::Usage,
     }
 }
 
 // Runs a command.
-fn run<S: Source, K: Sink>(
+fn run<F: Files, S: Source, K: Sink>(
     alloc: Global,
-    command: TextCommand,
+    command: TextCommand<'_>,
+    files: &mut F,
     input: &mut S,
     output: &mut K,
 ) -> Status
-    ensures { Answered command
+    ensures answered { Answered (F.content files.old) command.entry
         (source_seen S.given S.left S.ended S.faults input.old)
         (source_seen S.given S.left S.ended S.faults input.new)
         (sink_seen K.taken K.faults output.old) (sink_seen K.taken K.faults output.new) result }
+    ensures at_once { EndsAtOnce result
+        → (input.new ≡ input.old) × (output.new ≡ output.old) }
+    ensures content { F.content files.new ≡ F.content files.old }
+    ensures back { LendsNone (F.lent files.old) (F.lent files.new) }
+    ensures unopened { (NamesFile command.entry → ⊥) → files.new ≡ files.old }
+    ensures config { result ≡ Status.ConfigRead
+        → CountsOne (F.faults files.old) (F.faults files.new) }
+    ensures config_same { ¬ (result ≡ Status.ConfigRead)
+        → F.faults files.new ≡ F.faults files.old }
 {
     match command {
         TextCommand::Encode(side) => encode(alloc, &side, input, output),
+        TextCommand::Check(path) => check(alloc, path, files, output),
         TextCommand::Parse => parse(alloc, input, output),
         TextCommand::Help => write_text(output, HELP),
         TextCommand::Version => write_text(output, VERSION),
     }
 }
 
+// Reads a file as a configuration, and says that it is one.
+fn check<F: Files, K: Sink>(alloc: Global, path: &str, files: &mut F, output: &mut K) -> Status
+    ensures answered { (source : SourceSeen) → Answered (F.content files.old) (Check path.entry)
+        source source (sink_seen K.taken K.faults output.old)
+        (sink_seen K.taken K.faults output.new) result }
+    ensures at_once { EndsAtOnce result → output.new ≡ output.old }
+    ensures content { F.content files.new ≡ F.content files.old }
+    ensures back { LendsNone (F.lent files.old) (F.lent files.new) }
+    ensures config { result ≡ Status.ConfigRead
+        → CountsOne (F.faults files.old) (F.faults files.new) }
+    ensures config_same { ¬ (result ≡ Status.ConfigRead)
+        → F.faults files.new ≡ F.faults files.old }
+{
+    match configured(alloc, files, path, TEXT_SLOTS) {
+        Ok(_) => write_text(output, CHECKED),
+        Err(status) => status,
+    }
+}
+
 // Reads lines to the end of the input, and writes what answers them.
 fn encode<S: Source, K: Sink>(alloc: Global, side: &Side, input: &mut S, output: &mut K) -> Status
-    ensures { Answered (Encode side.now)
+    ensures { (content : Option (List ℕ → List ℕ)) → Answered content (Encode side.now)
         (source_seen S.given S.left S.ended S.faults input.old)
         (source_seen S.given S.left S.ended S.faults input.new)
         (sink_seen K.taken K.faults output.old) (sink_seen K.taken K.faults output.new) result }
@@ -143,7 +219,7 @@ fn encode<S: Source, K: Sink>(alloc: Global, side: &Side, input: &mut S, output:
 
 // Reads lines to the end of the input, and writes how each reads.
 fn parse<S: Source, K: Sink>(alloc: Global, input: &mut S, output: &mut K) -> Status
-    ensures { Answered Parse
+    ensures { (content : Option (List ℕ → List ℕ)) → Answered content Parse
         (source_seen S.given S.left S.ended S.faults input.old)
         (source_seen S.given S.left S.ended S.faults input.new)
         (sink_seen K.taken K.faults output.old) (sink_seen K.taken K.faults output.new) result }

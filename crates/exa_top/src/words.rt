@@ -10,9 +10,11 @@ use text_forms::{asn, ipv4};
 
 /// A text command.
 #[derive(Clone, Copy, Debug, PartialEq, Eq)]
-pub enum TextCommand {
+pub enum TextCommand<'a> {
     /// `encode LOCAL_AS PEER_AS LOCAL_IP`: a session with these ends.
     Encode(Side),
+    /// `check CONFIG`: the path of a file.
+    Check(&'a str),
     /// `parse`
     Parse,
     /// `--help`
@@ -22,7 +24,7 @@ pub enum TextCommand {
 }
 
 /// The command that the words spell, or None where they spell none.
-pub fn text_command(words: &[&str]) -> Option<TextCommand>
+pub fn text_command<'a>(words: &[&'a str]) -> Option<TextCommand<'a>>
     ensures found { IfSome result (λ spelled. IsCommand (map (λ w. w.now) words.now) spelled) }
     ensures none { IfNone result
         ((spelled : Spelled) → IsCommand (map (λ w. w.now) words.now) spelled → ⊥) }
@@ -30,6 +32,9 @@ pub fn text_command(words: &[&str]) -> Option<TextCommand>
     let (name, operands) = words.split_first()?;
     if is(name.as_bytes(), b"encode") {
         return encode_of(operands);
+    }
+    if is(name.as_bytes(), b"check") {
+        return check_of(operands);
     }
     if !operands.is_empty() {
         return None;
@@ -46,7 +51,7 @@ pub fn text_command(words: &[&str]) -> Option<TextCommand>
     None
 }
 
-fn encode_of(operands: &[&str]) -> Option<TextCommand>
+fn encode_of<'a>(operands: &[&'a str]) -> Option<TextCommand<'a>>
     ensures found { IfSome result
         (λ spelled. IsCommand (codes "encode" ∷ map (λ w. w.now) operands.now) spelled) }
     ensures none { IfNone result ((spelled : Spelled)
@@ -56,6 +61,19 @@ fn encode_of(operands: &[&str]) -> Option<TextCommand>
         Some(side) => Some(TextCommand::Encode(side)),
         None => None,
     }
+}
+
+fn check_of<'a>(operands: &[&'a str]) -> Option<TextCommand<'a>>
+    ensures found { IfSome result
+        (λ spelled. IsCommand (codes "check" ∷ map (λ w. w.now) operands.now) spelled) }
+    ensures none { IfNone result ((spelled : Spelled)
+        → IsCommand (codes "check" ∷ map (λ w. w.now) operands.now) spelled → ⊥) }
+{
+    let (path, others) = operands.split_first()?;
+    if !others.is_empty() {
+        return None;
+    }
+    Some(TextCommand::Check(path))
 }
 
 // `LOCAL_AS PEER_AS LOCAL_IP`

@@ -2,9 +2,10 @@
 //! status. What it writes on standard error is one line, where the command didn't end well.
 #![tactic(auto)]
 
-use exa_top::{Status, exabgp_text};
+use arrayvec::ArrayVec;
+use exa_top::{STATUS_ROOM, Status, exabgp_text};
 use outside_std::{StdFiles, StdInput, StdOutput};
-use std::io::ErrorKind;
+use std::io::{ErrorKind, Write};
 use std::process::ExitCode;
 use std::{env, io};
 
@@ -13,10 +14,10 @@ fn main(rt: HostRuntime) -> ExitCode {
         Ok(words) => run(&rt, &words),
         Err(status) => status,
     };
-    if let Some(text) = status.text() {
-        // Where standard error fails there is nowhere left to say so.
-        let _ = eprintln!(rt; "exabgp: {text}");
-    }
+    let mut line: ArrayVec<u8, STATUS_ROOM> = ArrayVec::new();
+    status.put_line(&mut line);
+    // Where standard error fails there is nowhere left to say so.
+    let _ = rt.stderr().write_all(&line);
     ExitCode::from(status.number())
 }
 

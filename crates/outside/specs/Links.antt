@@ -47,7 +47,7 @@ link_told link =
 
 -- the calls that connect and fail
 abbrev pub dialer_plan : MemoryDialer → Plan
-dialer_plan d = d.plan
+dialer_plan d = d.attempts.plan
 
 -- all that a link has still to give that may fail
 abbrev pub memory_link_left : MemoryLink → List ℕ

@@ -8,7 +8,7 @@ use Rattle.outside.specs.Waiting.{waiting_in}
 
 -- the calls that fail
 abbrev pub spawner_plan : MemorySpawner → Plan
-spawner_plan s = s.plan
+spawner_plan s = s.attempts.plan
 
 -- what the children that are ready give, in order
 abbrev pub children_waiting : MemorySpawner → List (List ℕ)

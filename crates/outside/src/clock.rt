@@ -2,8 +2,8 @@
 ghost use Rattle.std.specs.Prelude.{ℕ, Bool};
 ghost use Rattle.std.specs.declared.option.Option.{Option};
 
-/// A clock. It can be copied, and each copy reads the same moments.
-pub trait Clock: Copy {
+/// A clock. It can be copied, and each copy reads the same moments, in any thread.
+pub trait Clock: Copy + Send + Sync {
     ghost use Rattle.outside.specs.Moments.{MayRead};
 
     /// The moments that it may read, by a test of a number, where it tells them.

@@ -1,5 +1,5 @@
 //! A connection to a peer.
-ghost use Rattle.std.specs.Prelude.{◌≡◌, ◌<◌, [], List, ℕ, Bool, length};
+ghost use Rattle.std.specs.Prelude.{◌≡◌, ◌<◌, List, ℕ, Bool, length};
 ghost use Rattle.std.specs.declared.option.Option.{Option};
 ghost use Rattle.route_values.specs.declared.settings.Settings.{Settings};
 
@@ -20,7 +20,6 @@ pub enum Recv {
 
 /// A connection to a peer, which gives and takes bytes.
 pub trait Link {
-    ghost use Rattle.outside.specs.Told.{Grows};
     ghost use Rattle.outside.specs.Calls.{Writes, WriteCounts};
     ghost use Rattle.outside.specs.Receiving.{Receives, Notes, told_length, Closes, RecvCounts};
 
@@ -53,7 +52,7 @@ pub trait Link {
             result }
         ensures end { Closes (ended self.old) (ended self.new) result }
         ensures cause { RecvCounts (faults self.old) (faults self.new) result }
-        ensures taken { Grows (taken self.old) (taken self.new) [] }
+        ensures taken { taken self.new ≡ taken self.old }
         ensures dialled { dialled self.new ≡ dialled self.old };
 
     /// Takes bytes from the front of the piece, which isn't empty, and says how many.
@@ -63,8 +62,8 @@ pub trait Link {
         requires { 0 < length piece.now }
         ensures bytes { Writes (taken self.old) (taken self.new) piece.now result }
         ensures cause { WriteCounts (faults self.old) (faults self.new) result }
-        ensures given { Grows (given self.old) (given self.new) [] }
-        ensures quiets { Grows (quiets self.old) (quiets self.new) [] }
+        ensures given { given self.new ≡ given self.old }
+        ensures quiets { quiets self.new ≡ quiets self.old }
         ensures ended { ended self.new ≡ ended self.old }
         ensures dialled { dialled self.new ≡ dialled self.old };
 }

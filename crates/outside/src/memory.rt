@@ -2,6 +2,7 @@
 //!
 //! A `Memory..` object fails at the calls that it is told to, a `Sure..` object never fails.
 
+mod attempts;
 pub mod child;
 mod fault_plan;
 pub mod held;
@@ -28,4 +29,3 @@ pub mod sure_link;
 pub mod sure_sink;
 pub mod sure_source;
 pub mod sure_spawner;
-mod tally;

@@ -13,12 +13,13 @@ pub enum Seat {
     Keeper,
 }
 
-/// Where workers wait, each in a seat of its own, and ring for each other. It can be copied.
+/// Where workers wait, each in a seat of its own, and ring for each other. It can be copied, and
+/// each thread may have a copy.
 ///
 /// Nothing is promised: a wait may be shorter or longer than it was asked for, and may end without
 /// a ring. A real one keeps a ring until the seat's next wait, so that a worker that looks, and
 /// then waits, misses no ring in between.
-pub trait Pause: Copy {
+pub trait Pause: Copy + Send + Sync {
     /// The same pauses, from another seat.
     fn at(self, seat: Seat) -> Self;
 

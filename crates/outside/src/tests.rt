@@ -1,6 +1,17 @@
+mod children;
+mod links;
+mod parts;
+
 use super::*;
 use std::alloc::Global;
 use std::test::Fail;
+
+// A script whose calls of these numbers fail.
+fn failing(calls: &[u64]) -> Script<'_> {
+    let mut script = Script::new();
+    script.failing = calls;
+    script
+}
 
 // What the calls of a source give until it ends, with `|` behind each piece, `!` for each fault.
 fn pieces<S: Source>(alloc: Global, source: &mut S, room: usize) -> Result<String, Fail> {

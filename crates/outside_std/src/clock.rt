@@ -11,14 +11,14 @@ pub struct SystemClock<R> {
     rt: R,
 }
 
-impl<R: time::Clock + Copy> SystemClock<R> {
+impl<R: time::Clock + Copy + Send + Sync> SystemClock<R> {
     /// The clock that the runtime reaches.
     pub fn new(rt: R) -> Self {
         SystemClock { rt }
     }
 }
 
-impl<R: time::Clock + Copy> Clock for SystemClock<R> {
+impl<R: time::Clock + Copy + Send + Sync> Clock for SystemClock<R> {
     ghost moments = { λ _. None };
 
     fn now(self) -> u64 {

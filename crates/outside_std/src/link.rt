@@ -1,5 +1,5 @@
 //! A TCP connection as a link.
-ghost use Rattle.std.specs.Prelude.{◌≡◌, ◌<◌, ◌≤◌, List, ℕ, [], None, false, length};
+ghost use Rattle.std.specs.Prelude.{◌≡◌, ◌<◌, ◌≤◌, List, ℕ, None, false, length};
 ghost use Rattle.std.specs.Io.{ReadsAtMost, WritesAtMost};
 ghost use Rattle.std.specs.Io.KnownBytes.{ReadConsumes, WriteAppends};
 
@@ -66,7 +66,6 @@ impl<'a, S: io::Read + io::Write + AsFd> StreamLink<'a, S> {
 }
 
 impl<S: io::Read + io::Write + AsFd> Link for StreamLink<'_, S> {
-    ghost use Rattle.outside.specs.Told.{Grows};
     ghost use Rattle.outside.specs.Calls.{Writes, WriteCounts};
     ghost use Rattle.outside.specs.Receiving.{Receives, Notes, told_length, Closes, RecvCounts};
     ghost use Rattle.outside_std.specs.Passing.{Hears, Takes};
@@ -93,7 +92,7 @@ impl<S: io::Read + io::Write + AsFd> Link for StreamLink<'_, S> {
             result }
         ensures cause { RecvCounts (⟦<Self as Link>⟧.faults self.old)
             (⟦<Self as Link>⟧.faults self.new) result }
-        ensures taken { Grows None None [] }
+        ensures taken { ⟦<Self as Link>⟧.taken self.new ≡ ⟦<Self as Link>⟧.taken self.old }
         ensures dialled { ⟦<Self as Link>⟧.dialled self.new ≡ ⟦<Self as Link>⟧.dialled self.old }
         ensures through { Hears (S.remaining (stream_of self.old))
             (S.remaining (stream_of self.new)) into.new result }
@@ -118,8 +117,8 @@ impl<S: io::Read + io::Write + AsFd> Link for StreamLink<'_, S> {
         ensures bytes { Writes None None piece.now result }
         ensures cause { WriteCounts (⟦<Self as Link>⟧.faults self.old)
             (⟦<Self as Link>⟧.faults self.new) result }
-        ensures given { Grows None None [] }
-        ensures quiets { Grows None None [] }
+        ensures given { ⟦<Self as Link>⟧.given self.new ≡ ⟦<Self as Link>⟧.given self.old }
+        ensures quiets { ⟦<Self as Link>⟧.quiets self.new ≡ ⟦<Self as Link>⟧.quiets self.old }
         ensures ended { ⟦<Self as Link>⟧.ended self.new ≡ ⟦<Self as Link>⟧.ended self.old }
         ensures dialled { ⟦<Self as Link>⟧.dialled self.new ≡ ⟦<Self as Link>⟧.dialled self.old }
         ensures through { Takes (S.contents (stream_of self.old))

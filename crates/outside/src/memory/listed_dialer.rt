@@ -6,16 +6,15 @@ ghost use Rattle.outside.specs.Waiting.{TakesNext, waiting_in};
 
 use crate::dialer::{Dialer, Dialled};
 use crate::link::Link;
-use crate::memory::fault_plan::FaultPlan;
+use crate::memory::attempts::Attempts;
 use crate::memory::kept::Kept;
 use crate::memory::listed_link::MemoryLink;
 use crate::memory::mark::Mark;
 use crate::memory::ready::ReadyLink;
 use crate::memory::roll::Roll;
-use crate::memory::script::{Script, mark_one};
+use crate::memory::script::Script;
 use crate::memory::sure_link::SureLink;
 use crate::memory::sure_source::SureSource;
-use crate::memory::tally::{count_back, one_more};
 use route_values::Settings;
 use std::alloc::{AllocError, Global};
 
@@ -30,10 +29,7 @@ pub struct MemoryDialer<'a> {
     ready: Vec<ReadyLink<'a>>,
     ended: Roll<MemoryLink<'a>>,
     asked: Roll<Settings>,
-    failed: Option<u64>,
-    plan: FaultPlan<'a>,
-    ends: Option<&'a Mark>,
-    marked: Option<&'a Mark>,
+    attempts: Attempts<'a>,
 }
 
 impl<'a> MemoryDialer<'a> {
@@ -60,10 +56,7 @@ impl<'a> MemoryDialer<'a> {
             alloc,
             ended: Roll::new(alloc, room)?,
             asked: Roll::new(alloc, room)?,
-            failed: Some(0),
-            plan: FaultPlan::new(failing),
-            ends: None,
-            marked: None,
+            attempts: Attempts::new(failing),
             ready,
         })
     }
@@ -77,8 +70,7 @@ impl<'a> MemoryDialer<'a> {
         ensures plan { dialer_plan result ≡ dialer_plan self.entry }
         ensures waiting { links_waiting result ≡ links_waiting self.entry }
     {
-        self.ends = Some(ends);
-        self.marked = Some(faults);
+        self.attempts.mark_at(ends, faults);
         self
     }
 
@@ -87,14 +79,14 @@ impl<'a> MemoryDialer<'a> {
     pub fn faults(&self) -> u64
         ensures { result ≡ ⟦<Self as Dialer>⟧.faults self.now }
     {
-        self.plan.faults()
+        self.attempts.faults()
     }
 
     /// How many calls of `connect` have failed, as far as 64 bits go.
     pub fn failed(&self) -> Option<u64>
         ensures { result ≡ ⟦<Self as Dialer>⟧.failed self.now }
     {
-        self.failed
+        self.attempts.failed()
     }
 
     /// What was asked for, where there was room for all.
@@ -145,9 +137,9 @@ impl<'a> Dialer for MemoryDialer<'a> {
 
     ghost asked = { λ d. d.asked };
 
-    ghost failed = { λ d. d.failed };
+    ghost failed = { λ d. d.attempts.failed };
 
-    ghost faults = { λ d. d.plan.faults };
+    ghost faults = { λ d. d.attempts.plan.faults };
 
     /// As `Dialer::connect`; a call that was told to fails, and each other one opens a link.
     #[tactic(auto, using(crate::proofs::ToldLemmas::none_given))]
@@ -174,9 +166,7 @@ impl<'a> Dialer for MemoryDialer<'a> {
         ensures plan { dialer_plan self.new ≡ after_call (dialer_plan self.old) }
     {
         self.asked.add(*to);
-        if self.plan.strikes() {
-            mark_one(self.marked);
-            self.failed = one_more(self.failed);
+        if self.attempts.strikes() {
             return Dialled::Failed;
         }
         Dialled::Open(next(self.alloc, &mut self.ready, to))
@@ -201,8 +191,8 @@ impl<'a> Dialer for MemoryDialer<'a> {
             (dialer_plan self.old) }
         ensures waiting { links_waiting self.new ≡ links_waiting self.old }
     {
-        count_back(&mut self.plan, link.faults(), self.marked);
+        let faults = link.faults();
         self.ended.add(link);
-        mark_one(self.ends);
+        self.attempts.take_back(faults);
     }
 }

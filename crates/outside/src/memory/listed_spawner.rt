@@ -3,14 +3,13 @@ ghost use Rattle.std.specs.Prelude.{◌≡◌, ◌+◌, [], Some, true, false, m
 ghost use Rattle.outside.specs.Children.{left_of, ready_content};
 ghost use Rattle.outside.specs.Waiting.{TakesNext, waiting_in};
 
+use crate::memory::attempts::Attempts;
 use crate::memory::child::{ChildLeash, ChildSink, ChildSource};
-use crate::memory::fault_plan::FaultPlan;
 use crate::memory::kept::Kept;
 use crate::memory::mark::Mark;
 use crate::memory::ready::ReadyChild;
 use crate::memory::roll::{Roll, Texts};
-use crate::memory::script::{Script, mark_one};
-use crate::memory::tally::{count_both, one_more};
+use crate::memory::script::Script;
 use crate::sink::Sink;
 use crate::source::Source;
 use crate::spawner::{Pipes, Spawned, Spawner};
@@ -26,10 +25,7 @@ pub struct MemorySpawner<'a> {
     ready: Vec<ReadyChild<'a>>,
     ended: Roll<Pipes<ChildSource<'a>, ChildSink<'a>, ChildLeash<'a>>>,
     asked: Texts,
-    failed: Option<u64>,
-    plan: FaultPlan<'a>,
-    ends: Option<&'a Mark>,
-    marked: Option<&'a Mark>,
+    attempts: Attempts<'a>,
 }
 
 impl<'a> MemorySpawner<'a> {
@@ -56,10 +52,7 @@ impl<'a> MemorySpawner<'a> {
         Ok(MemorySpawner {
             ended: Roll::new(alloc, room)?,
             asked: Texts::new(alloc, room)?,
-            failed: Some(0),
-            plan: FaultPlan::new(failing),
-            ends: None,
-            marked: None,
+            attempts: Attempts::new(failing),
             ready,
         })
     }
@@ -75,8 +68,7 @@ impl<'a> MemorySpawner<'a> {
         ensures plan { spawner_plan result ≡ spawner_plan self.entry }
         ensures waiting { children_waiting result ≡ children_waiting self.entry }
     {
-        self.ends = Some(ends);
-        self.marked = Some(faults);
+        self.attempts.mark_at(ends, faults);
         self
     }
 
@@ -85,14 +77,14 @@ impl<'a> MemorySpawner<'a> {
     pub fn faults(&self) -> u64
         ensures { result ≡ ⟦<Self as Spawner>⟧.faults self.now }
     {
-        self.plan.faults()
+        self.attempts.faults()
     }
 
     /// How many calls of `spawn` have failed, as far as 64 bits go.
     pub fn failed(&self) -> Option<u64>
         ensures { result ≡ ⟦<Self as Spawner>⟧.failed self.now }
     {
-        self.failed
+        self.attempts.failed()
     }
 
     /// What was asked for, where there was room for all.
@@ -148,9 +140,9 @@ impl<'a> Spawner for MemorySpawner<'a> {
 
     ghost asked = { λ s. s.asked };
 
-    ghost failed = { λ s. s.failed };
+    ghost failed = { λ s. s.attempts.failed };
 
-    ghost faults = { λ s. s.plan.faults };
+    ghost faults = { λ s. s.attempts.plan.faults };
 
     /// As `Spawner::spawn`; a call that was told to fails, and each other one starts a child.
     #[tactic(auto, using(crate::proofs::ToldLemmas::none_given))]
@@ -178,9 +170,7 @@ impl<'a> Spawner for MemorySpawner<'a> {
         ensures plan { spawner_plan self.new ≡ after_call (spawner_plan self.old) }
     {
         self.asked.add(run);
-        if self.plan.strikes() {
-            mark_one(self.marked);
-            self.failed = one_more(self.failed);
+        if self.attempts.strikes() {
             return Spawned::Failed;
         }
         Spawned::Open(next(&mut self.ready))
@@ -208,8 +198,7 @@ impl<'a> Spawner for MemorySpawner<'a> {
     {
         let given = pipes.source.faults();
         let taken = pipes.sink.faults();
-        count_both(&mut self.plan, given, taken, self.marked);
         self.ended.add(pipes);
-        mark_one(self.ends);
+        self.attempts.take_both_back(given, taken);
     }
 }

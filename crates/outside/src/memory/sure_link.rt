@@ -83,7 +83,6 @@ impl<'a> SureLink<'a> {
 }
 
 impl Link for SureLink<'_> {
-    ghost use Rattle.outside.specs.Told.{Grows};
     ghost use Rattle.outside.specs.Calls.{Writes, WriteCounts};
     ghost use Rattle.outside.specs.Receiving.{Receives, Notes, told_length, Closes, RecvCounts};
     ghost use Rattle.outside.specs.Links.{link_left, EndsEmpty};
@@ -112,8 +111,7 @@ impl Link for SureLink<'_> {
         ensures end { Closes (⟦<Self as Link>⟧.ended self.old)
             (⟦<Self as Link>⟧.ended self.new) result }
         ensures cause { RecvCounts 0 0 result }
-        ensures taken { Grows (⟦<Self as Link>⟧.taken self.old)
-            (⟦<Self as Link>⟧.taken self.new) [] }
+        ensures taken { ⟦<Self as Link>⟧.taken self.new ≡ ⟦<Self as Link>⟧.taken self.old }
         ensures dialled { ⟦<Self as Link>⟧.dialled self.new ≡ ⟦<Self as Link>⟧.dialled self.old }
         ensures all { EndsEmpty (link_left self.old) result }
     {
@@ -139,10 +137,8 @@ impl Link for SureLink<'_> {
         ensures bytes { Writes (⟦<Self as Link>⟧.taken self.old)
             (⟦<Self as Link>⟧.taken self.new) piece.now result }
         ensures cause { WriteCounts 0 0 result }
-        ensures given { Grows (⟦<Self as Link>⟧.given self.old)
-            (⟦<Self as Link>⟧.given self.new) [] }
-        ensures quiets { Grows (⟦<Self as Link>⟧.quiets self.old)
-            (⟦<Self as Link>⟧.quiets self.new) [] }
+        ensures given { ⟦<Self as Link>⟧.given self.new ≡ ⟦<Self as Link>⟧.given self.old }
+        ensures quiets { ⟦<Self as Link>⟧.quiets self.new ≡ ⟦<Self as Link>⟧.quiets self.old }
         ensures ended { ⟦<Self as Link>⟧.ended self.new ≡ ⟦<Self as Link>⟧.ended self.old }
         ensures dialled { ⟦<Self as Link>⟧.dialled self.new ≡ ⟦<Self as Link>⟧.dialled self.old }
     {

@@ -1,13 +1,42 @@
 use Rattle.std.proofs.Common.{refl}
-use Rattle.exa_top.specs.declared.words.TextCommand.TheVariants.{Help, Version}
+use Rattle.exa_top.specs.declared.words.TextCommand.TheVariants.{Encode, Parse, Help, Version}
 use Rattle.exa_top.proofs.AnsweredLemmas.{read_none, text_written}
+use Rattle.exa_top.proofs.CheckedLemmas.{ends_later}
 use Rattle.exa_top.proofs.top.run.Goals as goal
 
-pub returns-in-Help : goal.returns-in-Help
-returns-in-Help g c =
-    rw c.in-Help.is (text_written Help _ _ _ _ _ (read_none _) (read_none _) (refl, refl) c.write_text.ensures)
+pub returns-in-Encode-clause-answered : goal.returns-in-Encode-clause-answered
+returns-in-Encode-clause-answered g c = rw c.in-Encode.is (c.encode.ensures _)
 
-pub returns-in-Version : goal.returns-in-Version
-returns-in-Version g c =
+pub returns-in-Encode-clause-at_once : goal.returns-in-Encode-clause-at_once
+returns-in-Encode-clause-at_once g c at_once =
+    absurd (ends_later (g.F.Files.content c.args.files.now) (Encode c.in-Encode.side) _ _ _ _ _ (c.encode.ensures _)
+    (λ names. names) at_once)
+
+pub returns-in-Encode-clause-config : goal.returns-in-Encode-clause-config
+returns-in-Encode-clause-config g c is =
+    absurd ((c.encode.ensures (g.F.Files.content c.args.files.now)).unread is)
+
+pub returns-in-Check-clause-answered : goal.returns-in-Check-clause-answered
+returns-in-Check-clause-answered g c = rw c.in-Check.is (c.check.ensures.answered _)
+
+pub returns-in-Parse-clause-answered : goal.returns-in-Parse-clause-answered
+returns-in-Parse-clause-answered g c = rw c.in-Parse.is (c.parse.ensures _)
+
+pub returns-in-Parse-clause-at_once : goal.returns-in-Parse-clause-at_once
+returns-in-Parse-clause-at_once g c at_once =
+    absurd (ends_later (g.F.Files.content c.args.files.now) Parse _ _ _ _ _ (c.parse.ensures _) (λ names. names)
+    at_once)
+
+pub returns-in-Parse-clause-config : goal.returns-in-Parse-clause-config
+returns-in-Parse-clause-config g c is =
+    absurd ((c.parse.ensures (g.F.Files.content c.args.files.now)).unread is)
+
+pub returns-in-Help-clause-answered : goal.returns-in-Help-clause-answered
+returns-in-Help-clause-answered g c =
+    rw c.in-Help.is
+    (text_written _ Help _ _ _ _ _ (read_none _) (read_none _) (refl, refl) c.write_text.ensures)
+
+pub returns-in-Version-clause-answered : goal.returns-in-Version-clause-answered
+returns-in-Version-clause-answered g c =
     rw c.in-Version.is
-    (text_written Version _ _ _ _ _ (read_none _) (read_none _) (refl, refl) c.write_text-in-Version.ensures)
+    (text_written _ Version _ _ _ _ _ (read_none _) (read_none _) (refl, refl) c.write_text-in-Version.ensures)

@@ -1,0 +1,13 @@
+pub mod Rules
+pub mod Answered
+pub mod Words
+pub mod Joined
+pub mod Processes
+pub mod Families
+pub mod Capabilities
+pub mod Statics
+pub mod Keyed
+pub mod Heard
+pub mod Neighbors
+pub mod Files
+pub mod Outcomes

@@ -1,0 +1,142 @@
+-- When a command ends well, if memory suffices.
+use Rattle.std.proofs.Common.{ℕ, ◌≡◌, ◌⊎◌, List, Option, Some, None, refl, sym, subst, ap, inl, inr, arith}
+use Rattle.config_model.specs.declared.fault.ConfigFault.{ConfigFault}
+use Rattle.config_model.specs.declared.slots.Slots.{Slots}
+use Rattle.config_model.specs.Sections.{Sections}
+use Rattle.config_reader.specs.Files.{Configures, IsFirstFault}
+use Rattle.config_reader.specs.Outcomes.{FilesDoOne, FilesFaultOnce}
+use Rattle.outside.specs.Seen.{SourceSeen, SinkSeen}
+use Rattle.outside.specs.Told.{AreLeftFrom, CountsOne, Rose}
+use Rattle.exa_top.specs.declared.status.Status.{Status}
+use Rattle.exa_top.specs.declared.status.Status.TheVariants as status
+use Rattle.exa_top.specs.declared.words.TextCommand.{TextCommand}
+use Rattle.exa_top.specs.declared.words.TextCommand.TheVariants.{Encode, Check, Parse, Help, Version}
+use Rattle.exa_top.specs.Configured.{AreTextSlots, IsConfigAt, IsFaultAt}
+use Rattle.exa_top.specs.Top.{input_limit, Answered, HasConfig, HasFault, IsConfigured, IsLeftShort, IsRefusedFor}
+use Rattle.exa_top.specs.Top.{IsToldConfig, IsToldFault, Ran, ReadsInput}
+use Rattle.exa_top.proofs.AnsweredLemmas.{whole_is_configured}
+
+-- what counted one fault rose
+pub counts_rose : (before now : ℕ) → CountsOne before now → Rose before now
+counts_rose before now counts = omega (arith, counts.0)
+
+-- fewer bytes than a limit are left, or as many as it
+left_short : (limit : ℕ) (left : Option (List ℕ)) → IsLeftShort limit left → AreLeftFrom left limit → ⊥
+left_short limit None short from = short
+left_short limit (Some rest) short from = absurd (omega (arith, short, from))
+
+config_apart : FilesDoOne → (content : Option (List ℕ → List ℕ)) (path : List ℕ) (slots : Slots) (fault : ConfigFault)
+    → AreTextSlots slots → IsFaultAt content path slots fault → IsToldConfig content path → ⊥
+config_apart law None path slots fault are at told = told
+config_apart law (Some content) path slots fault are at told =
+    let First : List ℕ → Type 0 = λ bytes. IsFirstFault bytes slots fault in
+    let good = told slots are in
+    law (content path) slots good.0 fault good.1 (subst First (sym at.are) at.first)
+
+-- a file that is a configuration isn't refused
+not_refused : FilesDoOne → (content : Option (List ℕ → List ℕ)) (command : TextCommand) (fault : ConfigFault)
+    → IsRefusedFor content command fault → HasConfig content command → ⊥
+not_refused law content (Encode side) fault refused good = refused
+not_refused law content (Check path) fault refused good =
+    config_apart law content path.now refused.0 fault refused.1 refused.2 good
+not_refused law content Parse fault refused good = refused
+not_refused law content Help fault refused good = refused
+not_refused law content Version fault refused good = refused
+
+fault_apart : FilesDoOne → (content : Option (List ℕ → List ℕ)) (path : List ℕ) (slots : Slots) (config : Sections)
+    (fault : ConfigFault) → AreTextSlots slots → IsConfigAt content path slots config → IsToldFault content path fault
+    → ⊥
+fault_apart law None path slots config fault are at told = told
+fault_apart law (Some content) path slots config fault are at told =
+    let Good : List ℕ → Type 0 = λ bytes. Configures bytes slots config in
+    law (content path) slots config fault (subst Good (sym at.are) at.configures) (told slots are)
+
+-- a file that has a fault is no configuration
+not_configured : FilesDoOne → (content : Option (List ℕ → List ℕ)) (command : TextCommand) (fault : ConfigFault)
+    → IsConfigured content command → HasFault content command fault → ⊥
+not_configured law content (Encode side) fault good told = told
+not_configured law content (Check path) fault good told =
+    fault_apart law content path.now good.0 good.2 fault good.1 good.3 told
+not_configured law content Parse fault good told = told
+not_configured law content Help fault good told = told
+not_configured law content Version fault good told = told
+
+fault_once : FilesFaultOnce → (content : Option (List ℕ → List ℕ)) (path : List ℕ) (slots : Slots)
+    (fault other : ConfigFault) → AreTextSlots slots → IsFaultAt content path slots other
+    → IsToldFault content path fault → other ≡ fault
+fault_once law None path slots fault other are at told = absurd told
+fault_once law (Some content) path slots fault other are at told =
+    let First : List ℕ → Type 0 = λ bytes. IsFirstFault bytes slots other in
+    law (content path) slots other fault (subst First (sym at.are) at.first) (told slots are)
+
+-- a file is refused for its one first fault
+refused_once : FilesFaultOnce → (content : Option (List ℕ → List ℕ)) (command : TextCommand) (fault other : ConfigFault)
+    → IsRefusedFor content command other → HasFault content command fault → other ≡ fault
+refused_once law content (Encode side) fault other refused told = absurd told
+refused_once law content (Check path) fault other refused told =
+    fault_once law content path.now refused.0 fault other refused.1 refused.2 told
+refused_once law content Parse fault other refused told = absurd told
+refused_once law content Help fault other refused told = absurd told
+refused_once law content Version fault other refused told = absurd told
+
+-- a command whose file has a fault reads no input
+fault_reads : (content : Option (List ℕ → List ℕ)) (command : TextCommand) (fault : ConfigFault)
+    → HasFault content command fault → ReadsInput command → ⊥
+fault_reads content (Encode side) fault told reads = told
+fault_reads content (Check path) fault told reads = reads
+fault_reads content Parse fault told reads = told
+fault_reads content Help fault told reads = told
+fault_reads content Version fault told reads = told
+
+-- what was read to its end had its configuration
+ran_configured : (content : Option (List ℕ → List ℕ)) (command : TextCommand) (source source' : SourceSeen)
+    (sink sink' : SinkSeen) → Ran content command source source' sink sink' → IsConfigured content command
+ran_configured content command source source' sink sink' ran =
+    whole_is_configured content command source source' ran.input ran.read
+
+-- a command whose file has a first fault, and whose files didn't fail
+pub refuses_it : FilesDoOne → FilesFaultOnce → (content : Option (List ℕ → List ℕ)) (command : TextCommand)
+    (source source' : SourceSeen) (sink sink' : SinkSeen) (fault : ConfigFault) (ends : Status)
+    → Answered content command source source' sink sink' ends → HasFault content command fault
+    → ¬ (ends ≡ status.ConfigRead) → (ends ≡ status.ConfigRefused fault) ⊎ (ends ≡ status.NoMemory)
+refuses_it apart once content command source source' sink sink' fault status.Ok answered told config =
+    absurd (not_configured apart content command fault (ran_configured content command source source' sink sink'
+    (answered.ok refl)) told)
+refuses_it apart once content command source source' sink sink' fault status.Usage answered told config =
+    absurd (answered.spelled refl)
+refuses_it apart once content command source source' sink sink' fault status.ConfigRead answered told config =
+    absurd (config refl)
+refuses_it apart once content command source source' sink sink' fault (status.ConfigRefused other) answered told
+    config =
+    inl (ap status.ConfigRefused (refused_once once content command fault other (answered.refused other refl) told))
+refuses_it apart once content command source source' sink sink' fault status.ReadFault answered told config =
+    absurd (fault_reads content command fault told (answered.read_reads refl))
+refuses_it apart once content command source source' sink sink' fault status.WriteFault answered told config =
+    absurd (not_configured apart content command fault (answered.write_late refl) told)
+refuses_it apart once content command source source' sink sink' fault status.NoMemory answered told config = inr refl
+refuses_it apart once content command source source' sink sink' fault status.InputLong answered told config =
+    absurd (fault_reads content command fault told (answered.reads refl))
+
+-- a command whose file is a configuration, whose input ends in time and whose devices didn't fail
+pub completed : FilesDoOne → (content : Option (List ℕ → List ℕ)) (command : TextCommand)
+    (source source' : SourceSeen) (sink sink' : SinkSeen) (ends : Status)
+    → Answered content command source source' sink sink' ends → HasConfig content command
+    → (ReadsInput command → IsLeftShort input_limit source.left)
+    → ¬ (ends ≡ status.ConfigRead) → ¬ Rose source.faults source'.faults → ¬ Rose sink.faults sink'.faults
+    → (ends ≡ status.Ok) ⊎ (ends ≡ status.NoMemory)
+completed law content command source source' sink sink' status.Ok answered good short config read write = inl refl
+completed law content command source source' sink sink' status.NoMemory answered good short config read write =
+    inr refl
+completed law content command source source' sink sink' status.Usage answered good short config read write =
+    absurd (answered.spelled refl)
+completed law content command source source' sink sink' status.ConfigRead answered good short config read write =
+    absurd (config refl)
+completed law content command source source' sink sink' (status.ConfigRefused fault) answered good short config read
+    write =
+    absurd (not_refused law content command fault (answered.refused fault refl) good)
+completed law content command source source' sink sink' status.ReadFault answered good short config read write =
+    absurd (read (counts_rose source.faults source'.faults (answered.read refl)))
+completed law content command source source' sink sink' status.WriteFault answered good short config read write =
+    absurd (write (counts_rose sink.faults sink'.faults (answered.write refl)))
+completed law content command source source' sink sink' status.InputLong answered good short config read write =
+    absurd (left_short input_limit source.left (short (answered.reads refl)) (answered.long refl).left)

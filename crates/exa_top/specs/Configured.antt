@@ -1,0 +1,43 @@
+-- The configuration that is read from a file by its path.
+use Rattle.std.specs.Prelude.{ℕ, ◌≡◌, ⊤, List}
+use Rattle.std.specs.declared.option.Option.{Option}
+use Rattle.outside.specs.declared.reading.Unread.{Unread}
+use Rattle.outside.specs.declared.reading.Unread.TheVariants as unread
+use Rattle.outside.specs.Opening.{IsContent}
+use Rattle.config_model.specs.declared.fault.ConfigFault.{ConfigFault}
+use Rattle.config_model.specs.declared.slots.Slots.{Slots}
+use Rattle.config_model.specs.Sections.{Sections}
+use Rattle.config_reader.specs.Files.{Configures, IsFirstFault, too_long}
+use Rattle.exa_top.specs.declared.status.Status.{Status}
+use Rattle.exa_top.specs.declared.status.Status.TheVariants as status
+
+-- how many processes and neighbours a text command reads a configuration for
+abbrev pub AreTextSlots : Slots → Type 0
+AreTextSlots slots = (slots.helpers ≡ 16) × (slots.peers ≡ 64)
+
+-- the bytes of the file at a path, which they are where content is told, are a configuration
+pub record IsConfigAt (content : Option (List ℕ → List ℕ)) (path : List ℕ) (slots : Slots) (config : Sections)
+    : Type 0 where
+  pub bytes : List ℕ
+  pub are : IsContent content path bytes
+  pub configures : Configures bytes slots config
+
+-- the bytes of the file at a path, which they are where content is told, have this first fault
+pub record IsFaultAt (content : Option (List ℕ → List ℕ)) (path : List ℕ) (slots : Slots) (fault : ConfigFault)
+    : Type 0 where
+  pub bytes : List ℕ
+  pub are : IsContent content path bytes
+  pub first : IsFirstFault bytes slots fault
+
+-- why a file gives no configuration, as a status
+abbrev pub IsUnread : Option (List ℕ → List ℕ) → List ℕ → Slots → Status → Type 0
+IsUnread content path slots status.ConfigRead = ⊤
+IsUnread content path slots (status.ConfigRefused fault) = IsFaultAt content path slots fault
+IsUnread content path slots status.NoMemory = ⊤
+IsUnread content path slots _ = ⊥
+
+-- the status of a file that wasn't read whole
+abbrev pub status_unread : Unread → Status
+status_unread unread.Memory = status.NoMemory
+status_unread unread.Fault = status.ConfigRead
+status_unread unread.Long = status.ConfigRefused too_long
