@@ -1,0 +1,6 @@
+pub mod QuietLemmas
+pub mod HeldLemmas
+pub mod HelperLemmas
+pub mod NodeLemmas
+pub mod PeerLemmas
+pub mod EndLemmas

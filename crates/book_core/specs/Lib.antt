@@ -1,0 +1,5 @@
+pub mod Seen
+pub mod Stands
+pub mod Quiet
+pub mod Moves
+pub mod Ready

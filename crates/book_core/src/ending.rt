@@ -1,0 +1,67 @@
+//! Events of the daemon as a whole.
+ghost use Rattle.std.specs.Prelude.{◌∷◌, [], List, ℕ};
+ghost use Rattle.config_model.specs.Sections.{Sections};
+ghost use Rattle.peer_history.specs.Steps.Step.{Ended};
+ghost use Rattle.book_history.specs.Entries.{History};
+ghost use Rattle.book_history.specs.Entries.Entry.{ControlAsked, ReloadRefused, Stopped};
+ghost use Rattle.book_history.specs.Legal.{Allows};
+ghost use Rattle.book_core.specs.Moves.{MovesAll};
+ghost use Rattle.book_core.specs.Stands.{Stands};
+
+use crate::book::Book;
+use crate::peering::Peering;
+use book_history::{Control, NotRead};
+use peer_book::Code;
+use peer_history::nodes_stay;
+
+// A Cease (RFC 4271, section 6.7).
+const CEASE: u8 = 6;
+
+// The subcode of an administrative shutdown (RFC 4486, section 3).
+const SHUT_DOWN: u8 = 2;
+
+impl Book {
+    /// What the daemon is to do. It takes no memory.
+    pub fn control(&mut self) -> Control
+        ensures { (cfg : Sections) (H : History) → Stands cfg H self.old →
+            Allows cfg H (ControlAsked result) × Stands cfg (ControlAsked result ∷ H) self.new }
+    {
+        if self.stopping {
+            return Control::Stop;
+        }
+        if self.reload_due {
+            return Control::ReloadDue;
+        }
+        Control::Nothing
+    }
+
+    /// There is no new configuration: no reload is due, and nothing else changes. It takes no memory.
+    pub fn reload_refused(&mut self, why: NotRead)
+        ensures { (cfg : Sections) (H : History) → Stands cfg H self.old →
+            Stands cfg (ReloadRefused why ∷ H) self.new }
+    {
+        let _why = why;
+        self.reload_due = false;
+    }
+
+    /// The daemon is to end, as by an accepted shutdown. It takes no memory.
+    pub fn stop(&mut self)
+        ensures { (cfg : Sections) (H : History) → Stands cfg H self.old →
+            Stands cfg (Stopped ∷ H) self.new }
+    {
+        // For the proof: sessions that end add no node.
+        nodes_stay();
+        end_all(&mut self.peers, Code::new(CEASE, SHUT_DOWN));
+        self.stopping = true;
+    }
+}
+
+/// Ends the sessions of all slots with a code.
+pub fn end_all(peers: &mut [Peering], code: Code)
+    ensures { MovesAll (λ n. Ended code ∷ []) peers.old peers.new }
+{
+    let count = peers.len();
+    'peers: for n in 0..count {
+        peers[n].slot.end(code);
+    }
+}
