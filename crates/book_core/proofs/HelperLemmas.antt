@@ -3,6 +3,7 @@ use Rattle.std.proofs.Common.{◌≡◌, ℕ, ◌<◌, zero, suc, Bool, true, fa
 use Rattle.std.proofs.Common.{◌∙◌, subst, eqb-true, eq-eqb, ne_eqb}
 use Rattle.std.proofs.lemmas.Bool.{cases_eq, eqb-false}
 use Rattle.std.specs.Prelude.{◌==◌, Option, get_or, slice_get, slice_set, IsTrue}
+use Rattle.std.proofs.lemmas.List.{length-set}
 use Rattle.std.proofs.lemmas.Option.{same_Some, slice_get_read}
 use Rattle.config_model.specs.Sections.{Sections}
 use Rattle.helper_book.specs.Apart.{is_apart}
@@ -15,7 +16,7 @@ use Rattle.book_history.specs.Entries.{Entry, History}
 use Rattle.book_history.specs.Entries.Entry.{LineEntered, RepliesTaken, HelperDeaf, HelperGone, SpawnAsked, Reloaded}
 use Rattle.book_history.specs.Legal.{Allows}
 use Rattle.book_core.specs.Quiet.{is_of_helper, is_quiet, ends_daemon, due_behind}
-use Rattle.book_core.specs.Seen.{Seen}
+use Rattle.book_core.specs.Seen.{Seen, IsWhole}
 use Rattle.book_core.specs.Stands.{HelpersStand, Stands}
 use Rattle.book_core.proofs.HeldLemmas.{daemon_on, held_quiet}
 use Rattle.book_core.proofs.QuietLemmas.{quiet_peers}
@@ -77,6 +78,14 @@ helper_changed cfg H entry helpers h new of_it own stand = λ k helper at.
           (stand k helper (sym (get_set_other helpers h k new other) ∙ at))
     ] refl
 
+-- the slots are all there behind a change of one helper slot
+pub whole_helper : (old : Seen) (h : ℕ) (new : Helper) → IsWhole old
+    → IsWhole (record old { helpers = slice_set old.helpers h new })
+whole_helper old h new whole = record {
+  helpers = length-set old.helpers h new ∙ whole.helpers;
+  peers = whole.peers;
+}
+
 -- A helper slot did what an entry of it alone says: the book stands behind the entry.
 pub helper_did : (cfg : Sections) (H : History) (entry : Entry) (old : Seen) (h : ℕ) (was new : Helper)
     → is_of_helper h entry ≡ true → is_quiet entry ≡ true → ends_daemon entry ≡ false → due_behind entry ≡ None
@@ -97,3 +106,14 @@ helper_did cfg H entry old h was new of_it quiet on silent within is did stands 
         held = held_quiet cfg H entry quiet own.0 stands.held;
       },
     )
+
+-- A quiet entry that is no concern of any helper slot: the book stands behind it as it is.
+pub quiet_did : (cfg : Sections) (H : History) (entry : Entry) (book : Seen) → is_quiet entry ≡ true
+    → ((h : ℕ) → IsTrue (is_apart h entry)) → ends_daemon entry ≡ false → due_behind entry ≡ None
+    → Allows cfg H entry → Stands cfg H book → Stands cfg (entry ∷ H) book
+quiet_did cfg H entry book quiet apart on silent allowed stands = record {
+  helpers = helpers_apart cfg H entry book.helpers apart stands.helpers;
+  peers = quiet_peers cfg H entry book.peers quiet stands.peers;
+  daemon = daemon_on H entry book book on silent refl refl stands.daemon;
+  held = held_quiet cfg H entry quiet allowed stands.held;
+}

@@ -30,7 +30,7 @@ use Rattle.book_history.specs.Slots.{neighbor_at, same_peer}
 use Rattle.book_core.specs.declared.peering.Peering.{Peering}
 use Rattle.book_core.specs.Moves.{Moves, MovesAll, MovesBelow, only_to}
 use Rattle.book_core.specs.Quiet.{moves_slots, ends_daemon, due_behind}
-use Rattle.book_core.specs.Seen.{Seen}
+use Rattle.book_core.specs.Seen.{Seen, IsWhole}
 use Rattle.book_core.specs.Stands.{PeersStand, Stands, names_heard}
 use Rattle.book_core.proofs.HeldLemmas.{daemon_on, held_on}
 use Rattle.book_core.proofs.HelperLemmas.{get_set_other, get_set_same, helpers_apart}
@@ -153,6 +153,14 @@ moved_one n steps old was new found move = record {
       ∙ sym (slice_get_past old m past);
 }
 
+-- the slots are all there behind a change of neighbour slots
+pub whole_peers : (old : Seen) (peers : List Peering) → length peers ≡ length old.peers → IsWhole old
+    → IsWhole (record old { peers = peers })
+whole_peers old peers same whole = record {
+  helpers = whole.helpers;
+  peers = same ∙ whole.peers;
+}
+
 -- All neighbour slots did what an entry is to them: the book stands behind the entry.
 pub peers_did : (cfg : Sections) (H : History) (entry : Entry) (old : Seen) (steps : ℕ → List Step)
     (peers : List Peering) → ((n : ℕ) → steps_of cfg n (entry ∷ H) ≡ steps n ++ steps_of cfg n H)
@@ -167,3 +175,16 @@ peers_did cfg H entry old steps peers told unmoved apart on silent allowed few m
       daemon = daemon_on H entry old after on silent refl refl stands.daemon;
       held = held_on cfg H entry unmoved allowed few stands.held;
     }
+
+-- One neighbour slot did what an entry of it is to it: the book stands behind the entry.
+pub peer_did : (cfg : Sections) (H : History) (entry : Entry) (old : Seen) (n : ℕ) (was new : Peering)
+    (steps : List Step) → ((m : ℕ) → steps_of cfg m (entry ∷ H) ≡ only_to n steps m ++ steps_of cfg m H)
+    → moves_slots entry ≡ false → ((h : ℕ) → IsTrue (is_apart h entry)) → ends_daemon entry ≡ false
+    → due_behind entry ≡ None → n < length old.peers → was ≡ get_or old.peers n was → Allows cfg H entry
+    → nodes cfg (entry ∷ H) ≤ nodes cfg H → Moves steps was new → Stands cfg H old
+    → Stands cfg (entry ∷ H) (record old { peers = slice_set old.peers n new })
+peer_did cfg H entry old n was new steps told unmoved apart on silent within is allowed few move stands =
+    let found : slice_get old.peers n ≡ Some was =
+    slice_get_read old.peers (length old.peers) n was refl within is in
+    peers_did cfg H entry old (only_to n steps) (slice_set old.peers n new) told unmoved apart on silent allowed few
+    (moved_one n steps old.peers was new found move) stands

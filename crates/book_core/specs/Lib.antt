@@ -3,3 +3,4 @@ pub mod Stands
 pub mod Quiet
 pub mod Moves
 pub mod Ready
+pub mod Ending

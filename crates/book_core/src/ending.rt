@@ -1,11 +1,12 @@
 //! Events of the daemon as a whole.
-ghost use Rattle.std.specs.Prelude.{◌∷◌, [], List, ℕ};
+ghost use Rattle.std.specs.Prelude.{◌≡◌, ◌<◌, ◌+◌, ◌∷◌, List, length};
 ghost use Rattle.config_model.specs.Sections.{Sections};
-ghost use Rattle.peer_history.specs.Steps.Step.{Ended};
 ghost use Rattle.book_history.specs.Entries.{History};
 ghost use Rattle.book_history.specs.Entries.Entry.{ControlAsked, ReloadRefused, Stopped};
 ghost use Rattle.book_history.specs.Legal.{Allows};
-ghost use Rattle.book_core.specs.Moves.{MovesAll};
+ghost use Rattle.book_core.specs.declared.peering.Peering.{Peering as Place};
+ghost use Rattle.book_core.specs.Ending.{directed_by, ended_by};
+ghost use Rattle.book_core.specs.Moves.{MovesAll, MovesBelow};
 ghost use Rattle.book_core.specs.Stands.{Stands};
 
 use crate::book::Book;
@@ -26,13 +27,7 @@ impl Book {
         ensures { (cfg : Sections) (H : History) → Stands cfg H self.old →
             Allows cfg H (ControlAsked result) × Stands cfg (ControlAsked result ∷ H) self.new }
     {
-        if self.stopping {
-            return Control::Stop;
-        }
-        if self.reload_due {
-            return Control::ReloadDue;
-        }
-        Control::Nothing
+        directed(self.stopping, self.reload_due)
     }
 
     /// There is no new configuration: no reload is due, and nothing else changes. It takes no memory.
@@ -56,12 +51,35 @@ impl Book {
     }
 }
 
-/// Ends the sessions of all slots with a code.
-pub fn end_all(peers: &mut [Peering], code: Code)
-    ensures { MovesAll (λ n. Ended code ∷ []) peers.old peers.new }
+// What the daemon is to do, by whether it ends and whether a reload is due.
+fn directed(stopping: bool, reload_due: bool) -> Control
+    ensures { result ≡ directed_by stopping reload_due }
+{
+    if stopping {
+        return Control::Stop;
+    }
+    if reload_due {
+        return Control::ReloadDue;
+    }
+    Control::Nothing
+}
+
+/// Ends the sessions of all slots with a code. It takes no memory.
+pub fn end_all(peers: &mut Vec<Peering>, code: Code)
+    ensures { MovesAll (ended_by code) peers.old.items peers.new.items }
 {
     let count = peers.len();
     'peers: for n in 0..count {
-        peers[n].slot.end(code);
+        end_at(peers, n, code);
     }
+}
+
+// Ends the session of one slot, behind those of the slots below it.
+fn end_at(peers: &mut Vec<Peering>, n: usize, code: Code)
+    requires { n < length peers.old.items }
+    ensures { (start : List Place) → MovesBelow n (ended_by code) start peers.old.items
+        → MovesBelow (n + 1) (ended_by code) start peers.new.items }
+{
+    let peering = &mut peers[n];
+    peering.slot.end(code);
 }

@@ -8,7 +8,7 @@ ghost use Rattle.book_history.specs.Entries.Entry.{PeerAsked, CameUp, WentDown, 
 ghost use Rattle.book_history.specs.Entries.Entry.{MessageCut};
 ghost use Rattle.book_history.specs.Legal.{Allows};
 ghost use Rattle.book_history.specs.PeerSteps.{answer_of};
-ghost use Rattle.book_core.specs.Ready.{are_settings, TakesCuts};
+ghost use Rattle.book_core.specs.Ready.{are_settings, peer_told, TakesCuts};
 ghost use Rattle.book_core.specs.Stands.{Stands};
 
 use crate::book::Book;
@@ -24,14 +24,12 @@ impl Book {
         ensures { (cfg : Sections) (H : History) → Stands cfg H self.now →
             Allows cfg H (PeerAsked n result) × Stands cfg (PeerAsked n result ∷ H) self.now }
     {
-        if self.stopping {
+        let stopping = self.stopping;
+        if stopping {
             return Peer::Stopping;
         }
-        let peering = &self.peers[n];
-        match peering.slot.settings() {
-            None => Peer::Absent,
-            Some(settings) => Peer::Is(settings),
-        }
+        let place = &self.peers[n];
+        peer_told(place.slot.settings())
     }
 
     /// A session came up with a neighbour slot, opened with these settings, which agreed on these capabilities. Nothing
@@ -43,15 +41,17 @@ impl Book {
             Allows cfg H (CameUp n settings.now caps result)
             × Stands cfg (CameUp n settings.now caps result ∷ H) self.new }
     {
-        if self.stopping {
+        let stopping = self.stopping;
+        if stopping {
             return Up::Stopping;
         }
-        let peering = &mut self.peers[n];
-        if !has_settings(&peering.slot, settings) {
+        let place = &self.peers[n];
+        if !has_settings(&place.slot, settings) {
             return Up::Stale;
         }
         // For the proof: a session that comes up adds no node.
         nodes_stay();
+        let peering = &mut self.peers[n];
         peering.slot.up(caps);
         Up::Ok
     }
@@ -95,6 +95,16 @@ impl Book {
         nodes_stay();
         let peering = &mut self.peers[n];
         told(peering.slot.cut(out))
+    }
+}
+
+// The neighbour that is told, by the settings of its slot.
+fn peer_told(settings: Option<Settings>) -> Peer
+    ensures { result ≡ peer_told settings }
+{
+    match settings {
+        None => Peer::Absent,
+        Some(settings) => Peer::Is(settings),
     }
 }
 
