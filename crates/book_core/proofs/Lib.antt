@@ -5,3 +5,7 @@ pub mod NodeLemmas
 pub mod PeerLemmas
 pub mod SessionLemmas
 pub mod EndLemmas
+pub mod ChoosingLemmas
+pub mod LineLemmas
+pub mod ReloadLemmas
+pub mod OpenLemmas

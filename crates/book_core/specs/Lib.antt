@@ -4,3 +4,5 @@ pub mod Quiet
 pub mod Moves
 pub mod Ready
 pub mod Ending
+pub mod Choosing
+pub mod Exchanging
