@@ -1,11 +1,12 @@
 -- The daemon is to end.
-use Rattle.std.proofs.Common.{◌≡◌, ℕ, ◌<◌, ◌≤◌, ◌+◌, Bool, true, false, List, [], ◌∷◌, ◌++◌, length, refl, sym, ap, ◌∙◌}
-use Rattle.std.proofs.Common.{subst, arith, Some}
-use Rattle.std.proofs.Common.{eqb-true, ne_eqb}
+use Rattle.std.proofs.Common.{◌≡◌, ℕ, ◌<◌, ◌≤◌, ◌+◌, Bool, true, false, List, [], ◌∷◌, ◌++◌, length}
+use Rattle.std.proofs.Common.{Some, refl, sym, ap, ◌∙◌, subst, arith}
+use Rattle.std.proofs.Common.{ne_eqb}
+use Rattle.std.proofs.Common.{inl, inr, eqb-true}
 use Rattle.std.proofs.lemmas.Bool.{eqb-false}
 use Rattle.std.proofs.lemmas.List.{length-set}
 use Rattle.std.proofs.lemmas.Option.{same_Some, slice_get_read, slice_get_within}
-use Rattle.std.specs.Prelude.{◌==◌, ◌||◌, Option, None, get_or, slice_get, slice_set}
+use Rattle.std.specs.Prelude.{◌⊎◌, ◌==◌, Option, None, get_or, slice_get, slice_set}
 use Rattle.config_model.specs.Sections.{Sections}
 use Rattle.peer_history.specs.Cuts as of_slot
 use Rattle.peer_history.specs.Laws as law
@@ -58,6 +59,13 @@ none_moved steps old = record {
   above = λ n past. refl;
 }
 
+at_or_below : (m n : ℕ) → m < n + 1 → (m ≡ n) ⊎ (m < n)
+at_or_below m n less = at_place (m == n) refl
+  where
+    at_place : (so : Bool) → (m == n) ≡ so → (m ≡ n) ⊎ (m < n)
+    at_place true same = inl (eqb-true m n same)
+    at_place false other = let apart = eqb-false m n other in inr (omega (arith, apart))
+
 -- one slot more is done
 pub moved_next : (steps : ℕ → List Step) (start old : List Peering) (n : ℕ) (was new : Peering) → n < length old
     → was ≡ get_or old n was → Moves (steps n) was new → MovesBelow n steps start old
@@ -68,19 +76,18 @@ moved_next steps start old n was new within is move moved =
     record {
       count = length-set old n new ∙ moved.count;
       below = λ m before after less there here.
-          elim (n == m) as (λ so. (n == m) ≡ so → Moves (steps m) before after) [
-            | true ↦ λ same.
-                let one : n ≡ m = eqb-true n m same in
+          elim (at_or_below m n less) [
+            | inl same ↦
+                let one : n ≡ m = sym same in
                 let is_was : was ≡ before = same_Some _ _ (sym from_start ∙ ap (slice_get start) one ∙ there) in
                 let is_new : new ≡ after =
                 get_set_same old n new after (ap (slice_get (slice_set old n new)) one ∙ here) in
                 subst (λ k. Moves (steps k) before after) one
                 (subst (λ p. Moves (steps n) p after) is_was (subst (λ p. Moves (steps n) was p) is_new move))
-            | false ↦ λ other.
-                let differs : n ≡ m → ⊥ = eqb-false n m other in
-                moved.below m before after (omega (arith, less, differs)) there
-                (sym (get_set_other old n m new other) ∙ here)
-          ] refl;
+            | inr under ↦
+                let other : (n == m) ≡ false = ne_eqb n m (λ same. absurd (omega (arith, same, under))) in
+                moved.below m before after under there (sym (get_set_other old n m new other) ∙ here)
+          ];
       above = λ m past.
           let other : (n == m) ≡ false = ne_eqb n m (λ same. absurd (omega (arith, same, past))) in
           get_set_other old n m new other ∙ moved.above m (omega (arith, past));

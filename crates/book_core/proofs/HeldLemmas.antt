@@ -20,6 +20,12 @@ use Rattle.book_core.specs.Stands.{AreSlots, DaemonStands, IsHeld, filled}
 use Rattle.book_core.proofs.QuietLemmas.{due_after, helpers_unmoved, peers_unmoved, quiet_nodes, quiet_unmoved}
 use Rattle.book_core.proofs.QuietLemmas.{stopping_behind}
 
+at_most : (a b c : ℕ) → a ≤ b → b ≤ c → a ≤ c
+at_most a b c few within = omega (arith, few, within)
+
+no_more : (a b : ℕ) → a ≡ b → a ≤ b
+no_more a b same = omega (arith, same)
+
 -- slots that an entry leaves
 pub slots_unmoved : (cfg : Sections) (H : History) (entry : Entry) → moves_slots entry ≡ false → AreSlots cfg H
     → AreSlots cfg (entry ∷ H)
@@ -39,10 +45,9 @@ slots_unmoved cfg H entry unmoved are =
 pub held_on : (cfg : Sections) (H : History) (entry : Entry) → moves_slots entry ≡ false → Allows cfg H entry
     → nodes cfg (entry ∷ H) ≤ nodes cfg H → IsHeld cfg H → IsHeld cfg (entry ∷ H)
 held_on cfg H entry unmoved allowed few held =
-    let within = held.bounded in
     record {
       legal = (allowed, held.legal);
-      bounded = omega (arith, few, within);
+      bounded = at_most (nodes cfg (entry ∷ H)) (nodes cfg H) max_nodes few held.bounded;
       slots = slots_unmoved cfg H entry unmoved held.slots;
     }
 
@@ -50,8 +55,8 @@ held_on cfg H entry unmoved allowed few held =
 pub held_quiet : (cfg : Sections) (H : History) (entry : Entry) → is_quiet entry ≡ true → Allows cfg H entry
     → IsHeld cfg H → IsHeld cfg (entry ∷ H)
 held_quiet cfg H entry quiet allowed held =
-    let same = quiet_nodes cfg H entry quiet in
-    held_on cfg H entry (quiet_unmoved entry quiet) allowed (omega (arith, same)) held
+    held_on cfg H entry (quiet_unmoved entry quiet) allowed
+    (no_more (nodes cfg (entry ∷ H)) (nodes cfg H) (quiet_nodes cfg H entry quiet)) held
 
 -- what is known of the daemon, behind an entry that says nothing of it
 pub daemon_on : (H : History) (entry : Entry) (old new : Seen) → ends_daemon entry ≡ false → due_behind entry ≡ None

@@ -1,6 +1,6 @@
 -- An entry of one helper slot, or of none.
-use Rattle.std.proofs.Common.{◌≡◌, ℕ, ◌<◌, zero, suc, Bool, true, false, not, List, [], ◌∷◌, length, Some, None, refl, sym, ap}
-use Rattle.std.proofs.Common.{◌∙◌, subst, eqb-true, eq-eqb, ne_eqb}
+use Rattle.std.proofs.Common.{◌≡◌, ℕ, ◌<◌, zero, suc, Bool, true, false, not, List, [], ◌∷◌, length, Some, None}
+use Rattle.std.proofs.Common.{refl, sym, ap, ◌∙◌, subst, eqb-true, eq-eqb, ne_eqb}
 use Rattle.std.proofs.lemmas.Bool.{cases_eq, eqb-false}
 use Rattle.std.specs.Prelude.{◌==◌, Option, get_or, slice_get, slice_set, IsTrue}
 use Rattle.std.proofs.lemmas.List.{length-set}
@@ -70,7 +70,8 @@ helper_changed cfg H entry helpers h new of_it own stand = λ k helper at.
       | true ↦ λ same.
           let one : h ≡ k = eqb-true h k same in
           let is : new ≡ helper =
-          get_set_same helpers h new helper (subst (λ i. slice_get (slice_set helpers h new) i ≡ Some helper) (sym one) at) in
+          get_set_same helpers h new helper
+          (subst (λ i. slice_get (slice_set helpers h new) i ≡ Some helper) (sym one) at) in
           subst (λ i. of_helper.Stands cfg (entry ∷ H) i helper) one
           (subst (λ s. of_helper.Stands cfg (entry ∷ H) h s) is own)
       | false ↦ λ other.

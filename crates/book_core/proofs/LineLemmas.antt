@@ -1,9 +1,10 @@
 -- Lines: what becomes of the book, by the verdict.
-use Rattle.std.proofs.Common.{◌≡◌, ℕ, ◌<◌, ◌≤◌, Bool, true, false, not, List, ◌∷◌, ◌++◌, length, Some, None, Ok, Err, refl}
-use Rattle.std.proofs.Common.{sym, ap, ◌∙◌, subst, inl, inr, eq-eqb}
+use Rattle.std.proofs.Common.{◌≡◌, ℕ, ◌<◌, ◌≤◌, Bool, true, false, not, List, ◌∷◌, ◌++◌, length, Some, None, Ok}
+use Rattle.std.proofs.Common.{Err, refl, sym, ap, ◌∙◌, subst, inl, inr, eq-eqb}
 use Rattle.std.proofs.lemmas.Bool.{ltb-false}
 use Rattle.std.proofs.lemmas.Option.{slice_get_read}
-use Rattle.std.specs.Prelude.{◌==◌, ◌||◌, nat_lt, if◌then◌else◌, Option, Result, get_or, slice_get, slice_set, unwrap_or}
+use Rattle.std.specs.Prelude.{◌==◌, ◌||◌, nat_lt, if◌then◌else◌, Option, Result, get_or, slice_get, slice_set}
+use Rattle.std.specs.Prelude.{unwrap_or}
 use Rattle.text_forms.specs.Lines.{Line}
 use Rattle.route_grammar.specs.declared.fault.ReadFault.{ReadFault}
 use Rattle.command_grammar.specs.declared.command.Command.{Command}
@@ -43,7 +44,8 @@ use Rattle.book_core.proofs.QuietLemmas.{due_after, stopping_behind}
 -- a line that isn't done is quiet, and says nothing of the daemon
 undone_quiet : (h inc : ℕ) (line : Line) (reading : Result Command ReadFault) (given : Verdict) → is_done given ≡ false
     → is_quiet (LineEntered h inc line reading given) ≡ true
-undone_quiet h inc line (Ok command) verdict.Done undone = absurd cc
+undone_quiet h inc line (Ok command) verdict.Done undone =
+    absurd (let never : true ≡ false = undone in cc)
 undone_quiet h inc line (Ok command) verdict.Ended undone = refl
 undone_quiet h inc line (Ok command) verdict.Busy undone = refl
 undone_quiet h inc line (Ok command) (verdict.Error because) undone = refl
@@ -51,12 +53,14 @@ undone_quiet h inc line (Err fault) given undone = refl
 
 undone_on : (h inc : ℕ) (line : Line) (reading : Result Command ReadFault) (given : Verdict) → is_done given ≡ false
     → ends_daemon (LineEntered h inc line reading given) ≡ false
-undone_on h inc line (Ok command.Shutdown) verdict.Done undone = absurd cc
+undone_on h inc line (Ok command.Shutdown) verdict.Done undone =
+    absurd (let never : true ≡ false = undone in cc)
 undone_on h inc line reading given undone = refl
 
 undone_silent : (h inc : ℕ) (line : Line) (reading : Result Command ReadFault) (given : Verdict)
     → is_done given ≡ false → due_behind (LineEntered h inc line reading given) ≡ None
-undone_silent h inc line (Ok command.Reload) verdict.Done undone = absurd cc
+undone_silent h inc line (Ok command.Reload) verdict.Done undone =
+    absurd (let never : true ≡ false = undone in cc)
 undone_silent h inc line reading given undone = refl
 
 -- what a line that is done says of the daemon
@@ -126,8 +130,10 @@ line_refused cfg H h inc line reading because book was new within is says verdic
 done_kept : (none full long over : Bool) (a b c : Why) → verdict.Done ≡ (if none then verdict.Error a
     else (if full then verdict.Error b else (if long then verdict.Error c
     else (if over then verdict.Busy else verdict.Done)))) → full ≡ false
-done_kept true full long over a b c is = absurd cc
-done_kept false true long over a b c is = absurd cc
+done_kept true full long over a b c is =
+    absurd (let never : ◌≡◌ {A = Verdict} verdict.Done (verdict.Error a) = is in cc)
+done_kept false true long over a b c is =
+    absurd (let never : ◌≡◌ {A = Verdict} verdict.Done (verdict.Error b) = is in cc)
 done_kept false false long over a b c is = refl
 
 pub done_within : (cfg : Sections) (H : History) (h inc with_it asked : ℕ) (given : Command)

@@ -1,6 +1,6 @@
 -- An entry of neighbour slots.
-use Rattle.std.proofs.Common.{◌≡◌, ℕ, ◌<◌, ◌≤◌, Bool, true, false, not, List, [], ◌∷◌, ◌++◌, length, Some, None, Ok, refl}
-use Rattle.std.proofs.Common.{sym, ap, ◌∙◌, subst, eqb-true, arith}
+use Rattle.std.proofs.Common.{◌≡◌, ℕ, ◌<◌, ◌≤◌, Bool, true, false, not, List, [], ◌∷◌, ◌++◌, length, Some, None}
+use Rattle.std.proofs.Common.{Ok, refl, sym, ap, ◌∙◌, subst, eqb-true, arith}
 use Rattle.std.proofs.lemmas.List.{length-set}
 use Rattle.std.proofs.lemmas.Option.{same_Some, slice_get_past, slice_get_read, slice_get_within, slice_get-get_or}
 use Rattle.std.specs.Prelude.{◌==◌, ⊤, if◌then◌else◌, Option, get_or, slice_get, slice_set, IsTrue}
@@ -24,7 +24,8 @@ use Rattle.book_history.specs.Entries.{Entry, History}
 use Rattle.book_history.specs.Entries.Entry.{LineEntered, CameUp, WentDown, RefreshAsked, MessageCut, Reloaded, Stopped}
 use Rattle.book_history.specs.Legal.{Allows}
 use Rattle.book_history.specs.Nodes.{nodes}
-use Rattle.book_history.specs.PeerSteps.{answer_of, commanded, exchanged, resettled, step_if, steps_of}
+use Rattle.book_history.specs.PeerSteps.{answer_of, cease, commanded, deconfigured, exchanged}
+use Rattle.book_history.specs.PeerSteps.{resettled, statics_of, step_if, steps_of}
 use Rattle.book_history.specs.Selecting.{selects}
 use Rattle.book_history.specs.Slots.{neighbor_at, same_peer}
 use Rattle.book_core.specs.declared.peering.Peering.{Peering}
@@ -83,7 +84,9 @@ exchanged_settings : (old new : Option Neighbor) (steps : List Step) → setting
 exchanged_settings None None steps is = is
 exchanged_settings None (Some new) steps is = refl
 exchanged_settings (Some old) None steps is = refl
-exchanged_settings (Some old) (Some new) steps is = changed_settings (same_peer old new) old new _ steps refl
+exchanged_settings (Some old) (Some new) steps is = 
+    changed_settings (same_peer old new) old new
+    (Placed new.settings (statics_of new) ∷ Ended (cease deconfigured) ∷ []) steps refl
 
 module _ (cfg : Sections) (n : ℕ) where
   -- a slot that was told one step, or another slot was

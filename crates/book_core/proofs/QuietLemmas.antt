@@ -28,28 +28,36 @@ use Rattle.book_core.specs.Stands.{PeersStand, names_heard}
 -- a quiet entry is no step of any slot
 pub quiet_steps : (cfg : Sections) (n : ℕ) (entry : Entry) (H : History) → is_quiet entry ≡ true
     → steps_of cfg n (entry ∷ H) ≡ steps_of cfg n H
-quiet_steps cfg n (LineEntered h inc line (Ok given) verdict.Done) H quiet = absurd cc
-quiet_steps cfg n (CameUp m settings caps up.Ok) H quiet = absurd cc
-quiet_steps cfg n (WentDown m) H quiet = absurd cc
-quiet_steps cfg n (RefreshAsked m family) H quiet = absurd cc
-quiet_steps cfg n (MessageCut m bytes given) H quiet = absurd cc
-quiet_steps cfg n (Reloaded new reload.Ok) H quiet = absurd cc
-quiet_steps cfg n Stopped H quiet = absurd cc
+quiet_steps cfg n (LineEntered h inc line (Ok given) verdict.Done) H quiet =
+    absurd (let never : false ≡ true = quiet in cc)
+quiet_steps cfg n (CameUp m settings caps up.Ok) H quiet =
+    absurd (let never : false ≡ true = quiet in cc)
+quiet_steps cfg n (WentDown m) H quiet =
+    absurd (let never : false ≡ true = quiet in cc)
+quiet_steps cfg n (RefreshAsked m family) H quiet =
+    absurd (let never : false ≡ true = quiet in cc)
+quiet_steps cfg n (MessageCut m bytes given) H quiet =
+    absurd (let never : false ≡ true = quiet in cc)
+quiet_steps cfg n (Reloaded new reload.Ok) H quiet =
+    absurd (let never : false ≡ true = quiet in cc)
+quiet_steps cfg n Stopped H quiet =
+    absurd (let never : false ≡ true = quiet in cc)
 quiet_steps cfg n entry H quiet = refl
 
 -- and leaves what stands in the slots
 pub quiet_unmoved : (entry : Entry) → is_quiet entry ≡ true → moves_slots entry ≡ false
-quiet_unmoved (Reloaded new reload.Ok) quiet = absurd cc
+quiet_unmoved (Reloaded new reload.Ok) quiet =
+    absurd (let never : false ≡ true = quiet in cc)
 quiet_unmoved entry quiet = refl
 
 pub peers_unmoved : (cfg : Sections) (entry : Entry) (H : History) → moves_slots entry ≡ false
     → peer_slots cfg (entry ∷ H) ≡ peer_slots cfg H
-peers_unmoved cfg (Reloaded new reload.Ok) H unmoved = absurd cc
+peers_unmoved cfg (Reloaded new reload.Ok) H unmoved = absurd (let never : true ≡ false = unmoved in cc)
 peers_unmoved cfg entry H unmoved = refl
 
 pub helpers_unmoved : (cfg : Sections) (entry : Entry) (H : History) → moves_slots entry ≡ false
     → helper_slots cfg (entry ∷ H) ≡ helper_slots cfg H
-helpers_unmoved cfg (Reloaded new reload.Ok) H unmoved = absurd cc
+helpers_unmoved cfg (Reloaded new reload.Ok) H unmoved = absurd (let never : true ≡ false = unmoved in cc)
 helpers_unmoved cfg entry H unmoved = refl
 
 pub neighbor_unmoved : (cfg : Sections) (n : ℕ) (entry : Entry) (H : History) → moves_slots entry ≡ false

@@ -1,6 +1,6 @@
 -- Events of one neighbour.
-use Rattle.std.proofs.Common.{◌≡◌, ℕ, ◌<◌, ◌≤◌, Bool, true, false, List, [], ◌∷◌, ◌++◌, length, Some, None, refl, sym, ap}
-use Rattle.std.proofs.Common.{◌∙◌, subst}
+use Rattle.std.proofs.Common.{◌≡◌, ℕ, ◌<◌, ◌≤◌, Bool, true, false, List, [], ◌∷◌, ◌++◌, length, Some, None}
+use Rattle.std.proofs.Common.{refl, sym, ap, ◌∙◌, subst}
 use Rattle.std.proofs.lemmas.Option.{same_Some, slice_get_read}
 use Rattle.std.specs.Prelude.{if◌then◌else◌, Option, get_or, slice_get, slice_set}
 use Rattle.route_values.specs.declared.addr.Family.{Family}
@@ -125,7 +125,8 @@ pub up_ok : SessionsAddNoNode → (cfg : Sections) (H : History) (n : ℕ) (sett
     → are_settings was.slot.settings settings ≡ true → book.stopping ≡ false
     → ((steps : List Step) → of_peer.Stands steps was.slot → of_peer.Stands (Up caps ∷ steps) slot) → Stands cfg H book
     → Allows cfg H (CameUp n settings caps up.Ok)
-    × Stands cfg (CameUp n settings caps up.Ok ∷ H) (record book { peers = slice_set book.peers n (with_slot was slot) })
+    × Stands cfg (CameUp n settings caps up.Ok ∷ H)
+    (record book { peers = slice_set book.peers n (with_slot was slot) })
 up_ok stay cfg H n settings caps book was slot within is same on did stands =
     let allowed = up_goes_on cfg H n settings book was true within is (sym same) on stands in
     let move : Moves (Up caps ∷ []) was (with_slot was slot) = record { slot = did; names = refl } in

@@ -1,5 +1,5 @@
 -- Which neighbour slots a command is for, by what the book keeps of them.
-use Rattle.std.specs.Prelude.{ℕ, ◌≡◌, ◌&&◌, Bool, true, false, List, slice_get, Option, Some, None}
+use Rattle.std.specs.Prelude.{ℕ, ◌≡◌, ◌&&◌, Bool, true, false, List, [], slice_get, Option, Some, None}
 use Rattle.std.specs.List.{list_any}
 use Rattle.std.specs.Option.{option_map}
 use Rattle.arrayvec.specs.ArrayVec.{ArrayVec}
@@ -8,6 +8,7 @@ use Rattle.route_values.specs.declared.pick.Pick.{Pick}
 use Rattle.route_values.specs.declared.settings.Settings.{Settings}
 use Rattle.command_grammar.specs.declared.command.Command.{Command}
 use Rattle.command_grammar.specs.declared.command.Command.TheVariants as command
+use Rattle.config_model.specs.declared.sections.Neighbor.{Neighbor}
 use Rattle.config_model.specs.declared.sections.Process.{Process}
 use Rattle.config_model.specs.Sections.{same_name}
 use Rattle.book_history.specs.declared.outcomes.Verdict.{Verdict}
@@ -16,11 +17,16 @@ use Rattle.book_history.specs.Selecting.{has_own_hop, is_picked, own_family, pic
 use Rattle.book_core.specs.declared.peering.Peering.{Peering}
 
 -- whether a neighbour with these settings that hears these names is meant by a process's selector
-abbrev pub is_meant : Option Process → List Pick → Option Family → Option Settings → List (ArrayVec ℕ) → Bool
+abbrev pub is_meant : Option Process → List Pick → Option Family → Option Settings → List (ArrayVec ℕ)
+    → Bool
 is_meant None pick family settings names = false
 is_meant (Some process) pick family None names = false
 is_meant (Some process) pick family (Some own) names =
     list_any (λ name. same_name name.items process.name.items) names && is_picked pick own && has_own_hop family own
+
+-- a section with these settings that hears these names
+abbrev pub section_of : Settings → List (ArrayVec ℕ) → Neighbor
+section_of settings names = record { settings = settings; statics = []; processes = names }
 
 -- the same of a command's selector, if it has one
 abbrev pub is_meant_by : Option Process → Option Family → Option (List Pick) → Peering → Bool
