@@ -20,7 +20,7 @@ use Rattle.book_core.specs.Stands.{AreSlots, DaemonStands, IsHeld, filled}
 use Rattle.book_core.proofs.QuietLemmas.{due_after, helpers_unmoved, peers_unmoved, quiet_nodes, quiet_unmoved}
 use Rattle.book_core.proofs.QuietLemmas.{stopping_behind}
 
-at_most : (a b c : ℕ) → a ≤ b → b ≤ c → a ≤ c
+pub at_most : (a b c : ℕ) → a ≤ b → b ≤ c → a ≤ c
 at_most a b c few within = omega (arith, few, within)
 
 no_more : (a b : ℕ) → a ≡ b → a ≤ b

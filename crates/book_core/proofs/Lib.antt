@@ -9,3 +9,4 @@ pub mod ChoosingLemmas
 pub mod LineLemmas
 pub mod ReloadLemmas
 pub mod OpenLemmas
+pub mod CountLemmas

@@ -56,3 +56,8 @@ is_shutdown _ = false
 abbrev pub is_reload : Command → Bool
 is_reload command.Reload = true
 is_reload _ = false
+
+-- whether a command may add route nodes
+abbrev pub is_announce : Command → Bool
+is_announce (command.Announce pick keys attrs) = true
+is_announce _ = false
