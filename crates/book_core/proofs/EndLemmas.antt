@@ -46,7 +46,8 @@ pub stopped : law.SessionsAddNoNode → (cfg : Sections) (H : History) (old new 
 stopped stay cfg H old new same on due moved stands = record {
   helpers = subst (λ helpers. HelpersStand cfg (Stopped ∷ H) helpers) (sym same)
       (helpers_apart cfg H Stopped old.helpers (λ h. refl) stands.helpers);
-  peers = peers_moved cfg H Stopped (ended_by (cease shut_down)) old.peers new.peers (λ n. refl) refl moved stands.peers;
+  peers = peers_moved cfg H Stopped (ended_by (cease shut_down)) old.peers new.peers (λ n. refl) refl moved
+      stands.peers;
   daemon = record { stopping = on; reload_due = due ∙ stands.daemon.reload_due };
   held = held_on cfg H Stopped refl tt (stopped_few stay cfg H stands.held.legal) stands.held;
 }

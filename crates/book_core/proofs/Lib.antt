@@ -10,3 +10,4 @@ pub mod LineLemmas
 pub mod ReloadLemmas
 pub mod OpenLemmas
 pub mod CountLemmas
+pub mod KeepLemmas

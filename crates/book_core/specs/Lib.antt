@@ -6,3 +6,4 @@ pub mod Ready
 pub mod Ending
 pub mod Choosing
 pub mod Exchanging
+pub mod Keeping

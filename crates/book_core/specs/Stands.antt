@@ -49,8 +49,8 @@ pub record DaemonStands (H : History) (book : Seen) : Type 0 where
 abbrev pub filled : {A : Type 0} → List (Option A) → List A
 filled slots = flat_map option_to_list slots
 
--- No more slots were ever used than there are, and no two hold the same neighbour or the same process. So a reload finds
--- a vacant slot for each new section.
+-- No more slots were ever used than there are, and no two hold the same neighbour or the same process. So a reload
+-- finds a vacant slot for each new section.
 pub record AreSlots (cfg : Sections) (H : History) : Type 0 where
   pub few_helpers : length (helper_slots cfg H) ≤ max_helpers
   pub few_peers : length (peer_slots cfg H) ≤ max_peers

@@ -8,7 +8,8 @@ use Rattle.book_core.proofs.SessionLemmas.{takes_cut, was_cut}
 use Rattle.book_core.proofs.book.Book.cut.Goals as goal
 
 pub invariant_of-self : goal.invariant_of-self
-invariant_of-self c = whole_peers (seen c.self.inside) _ (length-set c.self.inside.peers.items c.args.n _) c.self.invariant
+invariant_of-self c =
+    whole_peers (seen c.self.inside) _ (length-set c.self.inside.peers.items c.args.n _) c.self.invariant
 
 pub requires-cut-clause-room : goal.requires-cut-clause-room
 requires-cut-clause-room c =

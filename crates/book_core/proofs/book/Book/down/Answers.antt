@@ -7,7 +7,8 @@ use Rattle.book_core.proofs.SessionLemmas.{went_down}
 use Rattle.book_core.proofs.book.Book.down.Goals as goal
 
 pub invariant_of-self : goal.invariant_of-self
-invariant_of-self c = whole_peers (seen c.self.inside) _ (length-set c.self.inside.peers.items c.args.n _) c.self.invariant
+invariant_of-self c =
+    whole_peers (seen c.self.inside) _ (length-set c.self.inside.peers.items c.args.n _) c.self.invariant
 
 pub returns : goal.returns
 returns c = λ cfg H is.

@@ -10,8 +10,8 @@ use Rattle.book_core.proofs.book.Book.peer.Goals as goal
 
 pub returns-then-stopping : goal.returns-then-stopping
 returns-then-stopping c = λ cfg H is.
-    subst (λ book. Allows cfg H (PeerAsked c.args.n peer.Stopping) × Stands cfg (PeerAsked c.args.n peer.Stopping ∷ H) book)
-    c.self.view_is
+    subst (λ book. Allows cfg H (PeerAsked c.args.n peer.Stopping)
+    × Stands cfg (PeerAsked c.args.n peer.Stopping ∷ H) book) c.self.view_is
     (peer_stops cfg H c.args.n (seen c.self.inside) c.if-stopping.true (subst (Stands cfg H) (sym c.self.view_is) is))
 
 pub returns : goal.returns

@@ -7,10 +7,12 @@ use Rattle.book_core.proofs.SessionLemmas.{refreshed}
 use Rattle.book_core.proofs.book.Book.refresh.Goals as goal
 
 pub invariant_of-self : goal.invariant_of-self
-invariant_of-self c = whole_peers (seen c.self.inside) _ (length-set c.self.inside.peers.items c.args.n _) c.self.invariant
+invariant_of-self c =
+    whole_peers (seen c.self.inside) _ (length-set c.self.inside.peers.items c.args.n _) c.self.invariant
 
 pub returns : goal.returns
 returns c = λ cfg H is.
-    refreshed c.nodes_stay.ensures cfg H c.args.n c.args.family (seen c.self.inside) c.index_mut-peering.result.now c.refresh.new.self
+    refreshed c.nodes_stay.ensures cfg H c.args.n c.args.family (seen c.self.inside)
+    c.index_mut-peering.result.now c.refresh.new.self
     (subst (λ k. c.args.n < k) (sym c.self.invariant.peers) c.requires) c.index_mut-peering.ensures.value
     c.refresh.ensures (subst (Stands cfg H) (sym c.self.view_is) is)

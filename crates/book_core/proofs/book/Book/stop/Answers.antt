@@ -9,7 +9,8 @@ use Rattle.book_core.proofs.PeerLemmas.{whole_peers}
 use Rattle.book_core.proofs.book.Book.stop.Goals as goal
 
 pub invariant_of-self : goal.invariant_of-self
-invariant_of-self c = whole_peers (seen c.self.inside) c.end_all.new.peers.items c.end_all.ensures.count c.self.invariant
+invariant_of-self c =
+    whole_peers (seen c.self.inside) c.end_all.new.peers.items c.end_all.ensures.count c.self.invariant
 
 pub returns : goal.returns
 returns c = λ cfg H is.

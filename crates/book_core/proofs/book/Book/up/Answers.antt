@@ -9,7 +9,8 @@ use Rattle.std.proofs.lemmas.List.{length-set}
 use Rattle.book_core.proofs.book.Book.up.Goals as goal
 
 pub invariant_of-self : goal.invariant_of-self
-invariant_of-self c = whole_peers (seen c.self.inside) _ (length-set c.self.inside.peers.items c.args.n _) c.self.invariant
+invariant_of-self c =
+    whole_peers (seen c.self.inside) _ (length-set c.self.inside.peers.items c.args.n _) c.self.invariant
 
 pub returns-then-stopping : goal.returns-then-stopping
 returns-then-stopping c = λ cfg H is.
