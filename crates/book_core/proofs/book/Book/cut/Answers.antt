@@ -1,15 +1,18 @@
 use Rattle.std.proofs.Common.{◌<◌, sym, subst, ap}
 use Rattle.std.proofs.lemmas.List.{length-set}
+use Rattle.std.specs.Prelude.{slice_set}
 use Rattle.book_core.specs.Ready.{TakesCuts}
 use Rattle.book_core.specs.Seen.{Seen, seen}
 use Rattle.book_core.specs.Stands.{Stands}
 use Rattle.book_core.proofs.PeerLemmas.{whole_peers}
-use Rattle.book_core.proofs.SessionLemmas.{takes_cut, was_cut}
+use Rattle.book_core.proofs.SessionLemmas.{takes_cut, was_cut, with_slot}
 use Rattle.book_core.proofs.book.Book.cut.Goals as goal
 
 pub invariant_of-self : goal.invariant_of-self
 invariant_of-self c =
-    whole_peers (seen c.self.inside) _ (length-set c.self.inside.peers.items c.args.n _) c.self.invariant
+    let new = with_slot c.index_mut-peering.result.now c.cut.new.self in
+    let peers = c.self.inside.peers.items in
+    whole_peers (seen c.self.inside) (slice_set peers c.args.n new) (length-set peers c.args.n new) c.self.invariant
 
 pub requires-cut-clause-room : goal.requires-cut-clause-room
 requires-cut-clause-room c =

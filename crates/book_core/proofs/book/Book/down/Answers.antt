@@ -1,14 +1,17 @@
 use Rattle.std.proofs.Common.{◌<◌, sym, subst}
 use Rattle.std.proofs.lemmas.List.{length-set}
+use Rattle.std.specs.Prelude.{slice_set}
 use Rattle.book_core.specs.Seen.{seen}
 use Rattle.book_core.specs.Stands.{Stands}
 use Rattle.book_core.proofs.PeerLemmas.{whole_peers}
-use Rattle.book_core.proofs.SessionLemmas.{went_down}
+use Rattle.book_core.proofs.SessionLemmas.{went_down, with_slot}
 use Rattle.book_core.proofs.book.Book.down.Goals as goal
 
 pub invariant_of-self : goal.invariant_of-self
 invariant_of-self c =
-    whole_peers (seen c.self.inside) _ (length-set c.self.inside.peers.items c.args.n _) c.self.invariant
+    let new = with_slot c.index_mut-peering.result.now c.down.new.self in
+    let peers = c.self.inside.peers.items in
+    whole_peers (seen c.self.inside) (slice_set peers c.args.n new) (length-set peers c.args.n new) c.self.invariant
 
 pub returns : goal.returns
 returns c = λ cfg H is.

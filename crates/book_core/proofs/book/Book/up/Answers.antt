@@ -1,28 +1,36 @@
-use Rattle.std.proofs.Common.{◌<◌, sym, subst, ap, ◌∙◌}
+use Rattle.std.proofs.Common.{◌<◌, ◌∷◌, sym, subst, ap, ◌∙◌}
+use Rattle.std.proofs.lemmas.List.{length-set}
+use Rattle.std.specs.Prelude.{slice_set}
+use Rattle.book_history.specs.declared.outcomes.Up.TheVariants as up
+use Rattle.book_history.specs.Entries.Entry.{CameUp}
+use Rattle.book_history.specs.Legal.{Allows}
 use Rattle.book_core.specs.declared.peering.Peering.{Peering}
 use Rattle.book_core.specs.Ready.{are_settings}
-use Rattle.book_core.specs.Seen.{seen}
+use Rattle.book_core.specs.Seen.{Seen, seen}
 use Rattle.book_core.specs.Stands.{Stands}
 use Rattle.book_core.proofs.PeerLemmas.{whole_peers}
 use Rattle.book_core.proofs.SessionLemmas.{one_place, up_ok, up_stale, up_stops, with_slot}
-use Rattle.std.proofs.lemmas.List.{length-set}
 use Rattle.book_core.proofs.book.Book.up.Goals as goal
 
 pub invariant_of-self : goal.invariant_of-self
 invariant_of-self c =
-    whole_peers (seen c.self.inside) _ (length-set c.self.inside.peers.items c.args.n _) c.self.invariant
+    let new = with_slot c.index_mut-peering.result.now c.up.new.self in
+    let peers = c.self.inside.peers.items in
+    whole_peers (seen c.self.inside) (slice_set peers c.args.n new) (length-set peers c.args.n new) c.self.invariant
 
 pub returns-then-stopping : goal.returns-then-stopping
 returns-then-stopping c = λ cfg H is.
-    up_stops cfg H c.args.n c.args.settings.now c.args.caps (seen c.self.inside) c.if-stopping.true
-    (subst (Stands cfg H) (sym c.self.view_is) is)
+    up_stops cfg H c.args.n c.args.settings.now c.args.caps c.args.self.now
+    (sym (ap (λ (book : Seen). book.stopping) c.self.view_is) ∙ c.if-stopping.true) is
 
 pub returns-then-not-has_settings : goal.returns-then-not-has_settings
 returns-then-not-has_settings c = λ cfg H is.
-    up_stale cfg H c.args.n c.args.settings.now c.args.caps (seen c.self.inside) c.index-place.result.now
+    subst (λ book. Allows cfg H (CameUp c.args.n c.args.settings.now c.args.caps up.Stale)
+    × Stands cfg (CameUp c.args.n c.args.settings.now c.args.caps up.Stale ∷ H) book) c.self.view_is
+    (up_stale cfg H c.args.n c.args.settings.now c.args.caps (seen c.self.inside) c.index-place.result.now
     (subst (λ k. c.args.n < k) (sym c.self.invariant.peers) c.requires) c.index-place.ensures.value
     (sym c.has_settings.ensures ∙ c.if-not-has_settings.true) c.if-stopping.false
-    (subst (Stands cfg H) (sym c.self.view_is) is)
+    (subst (Stands cfg H) (sym c.self.view_is) is))
 
 pub returns : goal.returns
 returns c = λ cfg H is.
