@@ -7,3 +7,4 @@ pub mod Ending
 pub mod Choosing
 pub mod Exchanging
 pub mod Keeping
+pub mod Carrying
