@@ -11,3 +11,4 @@ pub mod ReloadLemmas
 pub mod OpenLemmas
 pub mod CountLemmas
 pub mod KeepLemmas
+pub mod CallLemmas
