@@ -12,8 +12,8 @@ pub record Seen : Type 0 where
   pub stopping : Bool
   pub reload_due : Bool
 
-abbrev pub seen : Inside → Seen
-seen inside = record {
+abbrev pub fields : Inside → Seen
+fields inside = record {
   helpers = inside.helpers.items;
   peers = inside.peers.items;
   stopping = inside.stopping;

@@ -25,9 +25,9 @@ impl Model for Book {
 
     ghost Value = { Seen };
 
-    ghost use Rattle.book_core.specs.Seen.{seen};
+    ghost use Rattle.book_core.specs.Seen.{fields};
 
-    ghost view = { seen };
+    ghost view = { fields };
 
-    ghost invariant = { λ book. IsWhole (seen book) };
+    ghost invariant = { λ book. IsWhole (fields book) };
 }

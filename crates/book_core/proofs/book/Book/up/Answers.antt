@@ -6,7 +6,7 @@ use Rattle.book_history.specs.Entries.Entry.{CameUp}
 use Rattle.book_history.specs.Legal.{Allows}
 use Rattle.book_core.specs.declared.peering.Peering.{Peering}
 use Rattle.book_core.specs.Ready.{are_settings}
-use Rattle.book_core.specs.Seen.{Seen, seen}
+use Rattle.book_core.specs.Seen.{Seen, fields}
 use Rattle.book_core.specs.Stands.{Stands}
 use Rattle.book_core.proofs.PeerLemmas.{whole_peers}
 use Rattle.book_core.proofs.SessionLemmas.{one_place, up_ok, up_stale, up_stops, with_slot}
@@ -16,7 +16,7 @@ pub invariant_of-self : goal.invariant_of-self
 invariant_of-self c =
     let new = with_slot c.index_mut-peering.result.now c.up.new.self in
     let peers = c.self.inside.peers.items in
-    whole_peers (seen c.self.inside) (slice_set peers c.args.n new) (length-set peers c.args.n new) c.self.invariant
+    whole_peers (fields c.self.inside) (slice_set peers c.args.n new) (length-set peers c.args.n new) c.self.invariant
 
 pub returns-then-stopping : goal.returns-then-stopping
 returns-then-stopping c = λ cfg H is.
@@ -27,14 +27,14 @@ pub returns-then-not-has_settings : goal.returns-then-not-has_settings
 returns-then-not-has_settings c = λ cfg H is.
     subst (λ book. Allows cfg H (CameUp c.args.n c.args.settings.now c.args.caps up.Stale)
     × Stands cfg (CameUp c.args.n c.args.settings.now c.args.caps up.Stale ∷ H) book) c.self.view_is
-    (up_stale cfg H c.args.n c.args.settings.now c.args.caps (seen c.self.inside) c.index-place.result.now
+    (up_stale cfg H c.args.n c.args.settings.now c.args.caps (fields c.self.inside) c.index-place.result.now
     (subst (λ k. c.args.n < k) (sym c.self.invariant.peers) c.requires) c.index-place.ensures.value
     (sym c.has_settings.ensures ∙ c.if-not-has_settings.true) c.if-stopping.false
     (subst (Stands cfg H) (sym c.self.view_is) is))
 
 pub returns : goal.returns
 returns c = λ cfg H is.
-    let book = seen c.self.inside in
+    let book = fields c.self.inside in
     let within = subst (λ k. c.args.n < k) (sym c.self.invariant.peers) c.requires in
     let one = one_place book c.args.n c.index-place.result.now c.index_mut-peering.result.now within
     c.index-place.ensures.value c.index_mut-peering.ensures.value in
