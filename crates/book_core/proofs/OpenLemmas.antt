@@ -109,16 +109,28 @@ none_there : (ns : List ℕ) → sum_by (λ n. 0) ns ≡ 0
 none_there [] = refl
 none_there (n ∷ ns) = sum_by-cons (λ _. 0) n ns ∙ none_there ns
 
-slots_few : (xs : List Neighbor) (m : ℕ)
-    → sum_by (λ n. statics_in (slot (map Some xs) n)) (numbers_from 0 m) ≤ routes_in xs
+add_up : (whole first later rest section total : ℕ) → whole ≡ first + later → later ≡ rest → rest ≤ section
+    → total ≡ first + section → whole ≤ total
+add_up whole first later rest section total split moved few all = omega (arith, split, moved, few, all)
+
+-- how many static routes the sections of so many slots have
+abbrev statics_below : List Neighbor → ℕ → ℕ
+statics_below xs m = sum_by (λ n. statics_in (slot (map Some xs) n)) (numbers_from 0 m)
+
+slots_few : (xs : List Neighbor) (m : ℕ) → statics_below xs m ≤ routes_in xs
 slots_few xs zero = omega arith
-slots_few [] (suc m) = let none = none_there (numbers_from 0 (suc m)) in omega (arith, none)
+slots_few [] (suc m) =
+    let none : statics_below [] (suc m) ≡ 0 = none_there (numbers_from 0 (suc m)) in
+    subst (λ k. k ≤ 0) (sym none) (omega arith)
 slots_few (x ∷ xs) (suc m) =
-    let first = sum_by-cons (λ n. statics_in (slot (map Some (x ∷ xs)) n)) 0 (numbers_from 1 m) in
-    let moved = shifted (λ n. statics_in (slot (map Some (x ∷ xs)) n)) 0 m in
-    let rest = slots_few xs m in
-    let all = sum_by-cons (λ (neighbor : Neighbor). length neighbor.statics) x xs in
-    omega (arith, first, moved, rest, all)
+    let f : ℕ → ℕ = λ n. statics_in (slot (map Some (x ∷ xs)) n) in
+    let split : statics_below (x ∷ xs) (suc m) ≡ length x.statics + sum_by f (numbers_from 1 m) =
+    sum_by-cons f 0 (numbers_from 1 m) in
+    let moved : sum_by f (numbers_from 1 m) ≡ statics_below xs m = shifted f 0 m in
+    let all : routes_in (x ∷ xs) ≡ length x.statics + routes_in xs =
+    sum_by-cons (λ (neighbor : Neighbor). length neighbor.statics) x xs in
+    add_up (statics_below (x ∷ xs) (suc m)) (length x.statics) (sum_by f (numbers_from 1 m)) (statics_below xs m)
+    (routes_in xs) (routes_in (x ∷ xs)) split moved (slots_few xs m) all
 
 -- no more route nodes stand at the opening than there may be
 pub opened_within : (cfg : Sections) → IsConfig cfg → nodes cfg [] ≤ max_nodes
