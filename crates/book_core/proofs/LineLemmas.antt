@@ -84,10 +84,12 @@ line_late cfg H h inc line reading book says late stands =
     let is : verdict.Ended ≡ line_verdict cfg H h inc line reading =
     sym (ap (λ b. if b then verdict.Ended else (if length (queued cfg h inc H) == max_queued then verdict.Busy
     else reading_verdict cfg H h inc line reading)) late) in
-    let allowed : Allows cfg H entry = (says, inl is) in
-    (allowed, quiet_did cfg H entry book (undone_quiet h inc line reading verdict.Ended refl) (λ k. refl)
-    (undone_on h inc line reading verdict.Ended refl) (undone_silent h inc line reading verdict.Ended refl) allowed
-    stands)
+    let allowed : Allows cfg H entry = (says, inl is) in (
+      allowed,
+      quiet_did cfg H entry book (undone_quiet h inc line reading verdict.Ended refl) (λ k. refl)
+          (undone_on h inc line reading verdict.Ended refl) (undone_silent h inc line reading verdict.Ended refl) allowed
+          stands,
+    )
 
 -- a line that has to wait, for either reason
 pub line_busy : (cfg : Sections) (H : History) (h inc : ℕ) (line : Line) (reading : Result Command ReadFault)
@@ -96,10 +98,12 @@ pub line_busy : (cfg : Sections) (H : History) (h inc : ℕ) (line : Line) (read
     × Stands cfg (LineEntered h inc line reading verdict.Busy ∷ H) book
 line_busy cfg H h inc line reading book says is stands =
     let entry = LineEntered h inc line reading verdict.Busy in
-    let allowed : Allows cfg H entry = (says, inl is) in
-    (allowed, quiet_did cfg H entry book (undone_quiet h inc line reading verdict.Busy refl) (λ k. refl)
-    (undone_on h inc line reading verdict.Busy refl) (undone_silent h inc line reading verdict.Busy refl) allowed
-    stands)
+    let allowed : Allows cfg H entry = (says, inl is) in (
+      allowed,
+      quiet_did cfg H entry book (undone_quiet h inc line reading verdict.Busy refl) (λ k. refl)
+          (undone_on h inc line reading verdict.Busy refl) (undone_silent h inc line reading verdict.Busy refl) allowed
+          stands,
+    )
 
 -- the verdict on a line in time that finds room is that on its reading
 pub verdict_read : (cfg : Sections) (H : History) (h inc : ℕ) (line : Line) (reading : Result Command ReadFault)

@@ -84,7 +84,7 @@ exchanged_settings : (old new : Option Neighbor) (steps : List Step) → setting
 exchanged_settings None None steps is = is
 exchanged_settings None (Some new) steps is = refl
 exchanged_settings (Some old) None steps is = refl
-exchanged_settings (Some old) (Some new) steps is = 
+exchanged_settings (Some old) (Some new) steps is =
     changed_settings (same_peer old new) old new
     (Placed new.settings (statics_of new) ∷ Ended (cease deconfigured) ∷ []) steps refl
 

@@ -129,10 +129,12 @@ pub up_ok : SessionsAddNoNode → (cfg : Sections) (H : History) (n : ℕ) (sett
     (record book { peers = slice_set book.peers n (with_slot was slot) })
 up_ok stay cfg H n settings caps book was slot within is same on did stands =
     let allowed = up_goes_on cfg H n settings book was true within is (sym same) on stands in
-    let move : Moves (Up caps ∷ []) was (with_slot was slot) = record { slot = did; names = refl } in
-    (allowed, peer_did cfg H (CameUp n settings caps up.Ok) book n was (with_slot was slot) (Up caps ∷ [])
-    (λ m. refl) refl (λ h. refl) refl refl within is allowed
-    (stay.up cfg H n settings caps up.Ok (allowed, stands.held.legal)) move stands)
+    let move : Moves (Up caps ∷ []) was (with_slot was slot) = record { slot = did; names = refl } in (
+      allowed,
+      peer_did cfg H (CameUp n settings caps up.Ok) book n was (with_slot was slot) (Up caps ∷ [])
+          (λ m. refl) refl (λ h. refl) refl refl within is allowed
+          (stay.up cfg H n settings caps up.Ok (allowed, stands.held.legal)) move stands,
+    )
 
 -- a session goes down
 pub went_down : SessionsAddNoNode → (cfg : Sections) (H : History) (n : ℕ) (book : Seen) (was : Peering) (slot : Slot)
@@ -175,6 +177,8 @@ was_cut stay cfg H n bytes given made book was slot within is told did stands =
       slot = λ before stood.
           subst (λ answer. of_peer.Stands (Cut answer ∷ before) slot) (sym told) (did before stood).1;
       names = refl;
-    } in
-    (allowed, peer_did cfg H entry book n was (with_slot was slot) one (λ m. refl) refl (λ h. refl) refl refl within is
-    allowed (stay.cut cfg H n bytes given (allowed, stands.held.legal)) move stands)
+    } in (
+      allowed,
+      peer_did cfg H entry book n was (with_slot was slot) one (λ m. refl) refl (λ h. refl) refl refl within is
+          allowed (stay.cut cfg H n bytes given (allowed, stands.held.legal)) move stands,
+    )

@@ -39,7 +39,13 @@ fn is_chosen(process: Option<&Process>, command: &Command, peering: &Peering) ->
     let Some(settings) = peering.slot.settings() else {
         return false;
     };
-    is_meant(process, pick, own_family(command), &settings, &peering.names)
+    is_meant(
+        process,
+        pick,
+        own_family(command),
+        &settings,
+        &peering.names,
+    )
 }
 
 // Whether a command with this selector and family is for a neighbour with these settings that hears these names.
