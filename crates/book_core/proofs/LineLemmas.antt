@@ -44,11 +44,11 @@ use Rattle.book_core.proofs.QuietLemmas.{due_after, stopping_behind}
 -- a line that isn't done is quiet, and says nothing of the daemon
 undone_quiet : (h inc : ℕ) (line : Line) (reading : Result Command ReadFault) (given : Verdict) → is_done given ≡ false
     → is_quiet (LineEntered h inc line reading given) ≡ true
-undone_quiet h inc line (Ok command) verdict.Done undone =
+undone_quiet h inc line (Ok said) verdict.Done undone =
     absurd (let never : true ≡ false = undone in cc)
-undone_quiet h inc line (Ok command) verdict.Ended undone = refl
-undone_quiet h inc line (Ok command) verdict.Busy undone = refl
-undone_quiet h inc line (Ok command) (verdict.Error because) undone = refl
+undone_quiet h inc line (Ok said) verdict.Ended undone = refl
+undone_quiet h inc line (Ok said) verdict.Busy undone = refl
+undone_quiet h inc line (Ok said) (verdict.Error because) undone = refl
 undone_quiet h inc line (Err fault) given undone = refl
 
 undone_on : (h inc : ℕ) (line : Line) (reading : Result Command ReadFault) (given : Verdict) → is_done given ≡ false
