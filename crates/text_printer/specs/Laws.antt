@@ -1,0 +1,51 @@
+-- The law of printing: the line of an effect reads back, and tells just that effect.
+use Rattle.std.specs.Prelude.{ℕ, ◌≡◌, ◌≤◌, ◌<◌, ◌^◌, ⊤, List, [], ◌∷◌, length, Ok}
+use Rattle.std.specs.List.{AllByRecursion}
+use Rattle.route_values.specs.declared.key.Key.{Key}
+use Rattle.route_values.specs.declared.attrs.WireAttrs.{WireAttrs}
+use Rattle.route_values.specs.Key.{family_of_key}
+use Rattle.route_values.specs.Prefix.{IsPrefix}
+use Rattle.text_forms.specs.Lines.{Text}
+use Rattle.token_reader.specs.LineTokens.{line_tokens}
+use Rattle.update_grammar.specs.declared.effect.Effect.{Effect}
+use Rattle.update_grammar.specs.declared.effect.Effect.TheVariants.{Gone, Here}
+use Rattle.update_grammar.specs.Written.{IsSendable}
+use Rattle.command_grammar.specs.declared.command.Command.{Command}
+use Rattle.command_grammar.specs.Readings.{Says}
+use Rattle.text_printer.specs.Printable.{IsPrintable}
+use Rattle.text_printer.specs.Printing.{effect_tokens, effect_text}
+use Rattle.text_printer.specs.Told.{told_by, told_of}
+
+-- a prefix, and an identifier of 32 bits
+pub record IsKey (key : Key) : Type 0 where
+  pub prefix : IsPrefix key.prefix.addr key.prefix.len
+  pub id : key.id < 2 ^ 32
+
+-- a number of 8 bits
+abbrev pub IsByte : ℕ → Type 0
+IsByte number = number < 256
+
+abbrev pub AreBytes : List ℕ → Type 0
+AreBytes bytes = AllByRecursion IsByte bytes
+
+-- an effect that a message can have: numbers in their ranges, and a next hop of its key's family
+abbrev pub IsEffect : Effect → Type 0
+IsEffect (Gone key) = IsKey key
+IsEffect (Here key sent) = IsKey key × IsSendable (family_of_key key) sent × AllByRecursion AreBytes sent.extended
+
+-- one command that a line says, which tells just what the effect does
+abbrev pub TellsEffect : Effect → List ℕ → Type 0
+TellsEffect effect line =
+    (command : Command) × Says (Text line) (Ok command) × (told_by command ≡ told_of effect ∷ [])
+
+-- the line of an effect has just its tokens
+abbrev pub LinesHaveTheirTokens : Type 0
+LinesHaveTheirTokens = (effect : Effect) → IsEffect effect → line_tokens 0 (effect_text effect) ≡ effect_tokens effect
+
+-- and is no longer than a line may be
+abbrev pub LinesAreShort : Type 0
+LinesAreShort = (effect : Effect) → IsEffect effect → IsPrintable effect → length (effect_text effect) ≤ 65535
+
+-- the line of an effect that can be printed reads back
+abbrev pub LinesReadBack : Type 0
+LinesReadBack = (effect : Effect) → IsEffect effect → IsPrintable effect → TellsEffect effect (effect_text effect)
