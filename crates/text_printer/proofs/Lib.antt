@@ -1,1 +1,7 @@
+pub mod SpacedLemmas
+pub mod TokenLemmas
+pub mod ByteLemmas
+pub mod WordLemmas
+pub mod CleanLemmas
+pub mod MergedLemmas
 pub mod ScratchLemmas

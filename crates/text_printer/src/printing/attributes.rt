@@ -7,8 +7,10 @@ ghost use Rattle.text_printer.specs.Spaced.{GoesOn};
 use super::items::{put_if, put_named, put_named_if, put_number};
 use super::lists::put_listed;
 use super::path::put_path;
-use super::values::{Community, Extended, FormedBy, Ipv4, LargeCommunity, Number};
-use super::values::{addr_word, origin_word, prefix_word};
+use super::values::{
+    Community, Extended, FormedBy, Ipv4, LargeCommunity, Number, addr_word, origin_word,
+    prefix_word,
+};
 use route_values::{Key, NoMemory, WireAttrs};
 
 // The path identifier of a route that has none (RFC 7911, section 3, has no such value).
@@ -61,7 +63,17 @@ fn put_lists(text: &mut Vec<u8>, sent: &WireAttrs) -> Result<(), NoMemory>
     put_listed(text, b"community", &Community, sent.communities.as_slice())?;
     put_named_if(text, b"originator-id", &Ipv4, &sent.originator)?;
     put_listed(text, b"cluster-list", &Ipv4, sent.clusters.as_slice())?;
-    put_listed(text, b"extended-community", &Extended, sent.extended.as_slice())?;
-    put_listed(text, b"large-community", &LargeCommunity, sent.large.as_slice())?;
+    put_listed(
+        text,
+        b"extended-community",
+        &Extended,
+        sent.extended.as_slice(),
+    )?;
+    put_listed(
+        text,
+        b"large-community",
+        &LargeCommunity,
+        sent.large.as_slice(),
+    )?;
     Ok(())
 }

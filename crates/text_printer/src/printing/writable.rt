@@ -30,7 +30,11 @@ fn have_no_zero(segments: &[Segment]) -> bool
 fn has_no_zero(segment: &Segment) -> bool
     ensures { IsTrue result ↔ HasNoZero segment.now }
 {
-    segment.numbers.as_slice().iter().all(|number| *number != NO_AS)
+    segment
+        .numbers
+        .as_slice()
+        .iter()
+        .all(|number| *number != NO_AS)
 }
 
 fn is_formed_by_as(aggregator: &Option<Aggregator>) -> bool

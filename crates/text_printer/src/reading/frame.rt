@@ -28,7 +28,11 @@ pub fn update_body(bytes: &[u8], caps: &Caps) -> Option<&[u8]>
 fn greatest(caps: &Caps) -> usize
     ensures { result ≡ greatest (wide_of caps.now) }
 {
-    if caps.extended() { MAX_LONG_LEN } else { MAX_LEN }
+    if caps.extended() {
+        MAX_LONG_LEN
+    } else {
+        MAX_LEN
+    }
 }
 
 // The header of an UPDATE of so many bytes, header included: a marker, this length, and the type.
