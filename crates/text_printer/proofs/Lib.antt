@@ -4,4 +4,5 @@ pub mod ByteLemmas
 pub mod WordLemmas
 pub mod CleanLemmas
 pub mod MergedLemmas
+pub mod FrameLemmas
 pub mod ScratchLemmas

@@ -20,7 +20,7 @@ pub record IsIntroduction (text : List ℕ) : Type 0 where
   pub place : List ℕ
   pub neighbor_is : IsNeighbor neighbor
   pub place_is : IsPlace place
-  pub text_is : text ≡ codes "update " ++ (neighbor ++ (32 ∷ (place ++ 32 ∷ [])))
+  pub text_is : text ≡ codes "update" ++ 32 ∷ (neighbor ++ 32 ∷ (place ++ 32 ∷ []))
 
 -- what stands behind the introduction of a line, or the whole line where it has none
 pub data IsDigitsOf (line : List ℕ) : List ℕ → Type 0 where

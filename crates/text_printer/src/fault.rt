@@ -3,7 +3,7 @@ ghost use Rattle.std.specs.Prelude.{◌≡◌};
 ghost use Rattle.text_printer.specs.declared.fault.Unread.TheVariants as unread;
 ghost use Rattle.text_printer.specs.declared.fault.NoPrint.TheVariants as no_print;
 
-use route_values::NoMemory as NoRoom;
+use answers::NoMemory;
 use thiserror::Error;
 use update_grammar::UpdateFault;
 
@@ -39,18 +39,18 @@ pub enum NoPrint {
     NoMemory,
 }
 
-impl From<NoRoom> for Unread {
+impl From<NoMemory> for Unread {
     ghost from_gives = { λ _ fault. fault ≡ unread.NoMemory };
 
-    fn from(_: NoRoom) -> Unread {
+    fn from(_: NoMemory) -> Unread {
         Unread::NoMemory
     }
 }
 
-impl From<NoRoom> for NoPrint {
+impl From<NoMemory> for NoPrint {
     ghost from_gives = { λ _ fault. fault ≡ no_print.NoMemory };
 
-    fn from(_: NoRoom) -> NoPrint {
+    fn from(_: NoMemory) -> NoPrint {
         NoPrint::NoMemory
     }
 }

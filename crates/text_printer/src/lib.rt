@@ -7,11 +7,13 @@
 #![tactic(auto)]
 
 mod fault;
+mod laws;
 mod printing;
 mod reading;
 mod refusals;
 
 pub use fault::{NoPrint, Unread};
+pub use laws::lines_read_back;
 pub use printing::{Printed, print_effect, print_gone, print_here};
 pub use reading::{MAX_LINE, read_message};
 pub use refusals::print_refusal;

@@ -1,5 +1,5 @@
 //! Reads the line of a message.
-ghost use Rattle.std.specs.Prelude.{◌≡◌, IfOk, IfErr};
+ghost use Rattle.std.specs.Prelude.{◌≡◌, ◌↔◌, IfErr, IfOk, IsTrue};
 ghost use Rattle.text_printer.specs.Forms.{IsHexLine};
 ghost use Rattle.text_printer.specs.Reading.{Reads, ReadsBody, ReadsBytes, ReadsHex, unread_of};
 
@@ -68,6 +68,13 @@ fn effects_of(alloc: Global, body: &[u8], caps: &Caps) -> Result<Effects, Unread
         Ok(effects) => Ok(effects),
         Err(fault) => Err(unread_of(fault)),
     }
+}
+
+// Whether bytes are these.
+fn is(bytes: &[u8], others: &[u8]) -> bool
+    ensures { IsTrue result ↔ (bytes.now ≡ others.now) }
+{
+    bytes == others
 }
 
 // A fault of a body as one of its line.

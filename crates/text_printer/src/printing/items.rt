@@ -31,7 +31,7 @@ pub fn put_named_if<W: Wording>(
     wording: &W,
     value: &Option<W::Value>,
 ) -> Result<(), NoMemory>
-    ensures { OnOk result (GoesOn (named_if name.now (W.text wording.now) value.now)
+    ensures { OnOk result (GoesOn (named_if name.now (W.word_of wording.now) value.now)
         text.old.items text.new.items) }
 {
     match value {

@@ -14,7 +14,7 @@ pub fn put_listed<W: Wording>(
     wording: &W,
     values: &[W::Value],
 ) -> Result<(), NoMemory>
-    ensures { OnOk result (GoesOn (listed name.now (W.text wording.now) values.now)
+    ensures { OnOk result (GoesOn (listed name.now (W.word_of wording.now) values.now)
         text.old.items text.new.items) }
 {
     if values.is_empty() {
@@ -33,7 +33,7 @@ pub fn put_each<W: Wording>(
     wording: &W,
     values: &[W::Value],
 ) -> Result<(), NoMemory>
-    ensures { OnOk result (GoesOn (word_each (W.text wording.now) values.now) text.old.items
+    ensures { OnOk result (GoesOn (word_each (W.word_of wording.now) values.now) text.old.items
         text.new.items) }
 {
     for value in values {

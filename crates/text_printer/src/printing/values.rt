@@ -28,11 +28,11 @@ pub trait Wording {
     type Value;
 
     /// The word of a value.
-    ghost text: { Self → Self.Value → List ℕ };
+    ghost word_of: { Self → Self.Value → List ℕ };
 
     /// Writes a value.
     fn word(&self, value: &Self::Value) -> Bytes
-        ensures { result.items ≡ text self.now value.now };
+        ensures { result.items ≡ word_of self.now value.now };
 }
 
 /// A number, as an AS number.
@@ -43,7 +43,7 @@ impl Wording for Number {
 
     type Value = u32;
 
-    ghost text = { λ kind value. decimal value };
+    ghost word_of = { λ kind value. decimal value };
 
     fn word(&self, value: &u32) -> Bytes {
         number_word(*value)
@@ -58,7 +58,7 @@ impl Wording for Ipv4 {
 
     type Value = u32;
 
-    ghost text = { λ kind value. ipv4_text value };
+    ghost word_of = { λ kind value. ipv4_text value };
 
     fn word(&self, value: &u32) -> Bytes {
         addr_word(Addr::V4(*value))
@@ -73,7 +73,7 @@ impl Wording for Community {
 
     type Value = u32;
 
-    ghost text = { λ kind value. community_text value };
+    ghost word_of = { λ kind value. community_text value };
 
     fn word(&self, value: &u32) -> Bytes {
         community_word(*value)
@@ -88,7 +88,7 @@ impl Wording for Extended {
 
     type Value = [u8; 8];
 
-    ghost text = { λ kind value. extended_text value };
+    ghost word_of = { λ kind value. extended_text value };
 
     fn word(&self, value: &[u8; 8]) -> Bytes {
         extended_word(value)
@@ -103,7 +103,7 @@ impl Wording for LargeCommunity {
 
     type Value = Large;
 
-    ghost text = { λ kind value. large_text value };
+    ghost word_of = { λ kind value. large_text value };
 
     fn word(&self, value: &Large) -> Bytes {
         large_word(value)
@@ -118,7 +118,7 @@ impl Wording for FormedBy {
 
     type Value = Aggregator;
 
-    ghost text = { λ kind value. aggregator_text value };
+    ghost word_of = { λ kind value. aggregator_text value };
 
     fn word(&self, value: &Aggregator) -> Bytes {
         aggregator_word(value)
@@ -129,7 +129,7 @@ impl Wording for FormedBy {
 pub fn number_word(number: u32) -> Bytes
     ensures { result.items ≡ decimal number }
 {
-    let mut word = Bytes::new();
+    let mut word: Bytes = ArrayVec::new();
     put_u32(number, &mut word);
     word
 }
@@ -138,7 +138,7 @@ pub fn number_word(number: u32) -> Bytes
 pub fn addr_word(addr: Addr) -> Bytes
     ensures { result.items ≡ addr_text addr }
 {
-    let mut word = Bytes::new();
+    let mut word: Bytes = ArrayVec::new();
     put_addr(addr, &mut word);
     word
 }
@@ -147,7 +147,7 @@ pub fn addr_word(addr: Addr) -> Bytes
 pub fn prefix_word(prefix: &Prefix) -> Bytes
     ensures { result.items ≡ prefix_text prefix.now }
 {
-    let mut word = Bytes::new();
+    let mut word: Bytes = ArrayVec::new();
     put_prefix(prefix, &mut word);
     word
 }
@@ -167,7 +167,7 @@ pub fn origin_word(origin: Origin) -> &'static [u8]
 fn community_word(number: u32) -> Bytes
     ensures { result.items ≡ community_text number }
 {
-    let mut word = Bytes::new();
+    let mut word: Bytes = ArrayVec::new();
     put_u32(number / HALF_VALUES, &mut word);
     word.push(COLON);
     put_u32(number % HALF_VALUES, &mut word);
@@ -180,7 +180,7 @@ fn extended_word(bytes: &[u8; 8]) -> Bytes
 {
     let mut digits = [0; EXTENDED_DIGITS];
     let _ = encode_to_slice(bytes, &mut digits);
-    let mut word = Bytes::new();
+    let mut word: Bytes = ArrayVec::new();
     let _ = word.try_extend_from_slice(b"0x");
     let _ = word.try_extend_from_slice(&digits);
     word
@@ -190,7 +190,7 @@ fn extended_word(bytes: &[u8; 8]) -> Bytes
 fn large_word(large: &Large) -> Bytes
     ensures { result.items ≡ large_text large.now }
 {
-    let mut word = Bytes::new();
+    let mut word: Bytes = ArrayVec::new();
     put_u32(large.global, &mut word);
     word.push(COLON);
     put_u32(large.first, &mut word);
@@ -203,7 +203,7 @@ fn large_word(large: &Large) -> Bytes
 fn aggregator_word(by: &Aggregator) -> Bytes
     ensures { result.items ≡ aggregator_text by.now }
 {
-    let mut word = Bytes::new();
+    let mut word: Bytes = ArrayVec::new();
     put_u32(by.asn, &mut word);
     word.push(COLON);
     put_ipv4(by.addr, &mut word);

@@ -24,17 +24,23 @@ pub fn is_writable(sent: &WireAttrs) -> bool
 fn have_no_zero(segments: &[Segment]) -> bool
     ensures { IsTrue result ↔ AllByRecursion HasNoZero segments.now }
 {
-    segments.iter().all(|segment| has_no_zero(segment))
+    'segments: for segment in segments {
+        if !has_no_zero(segment) {
+            return false;
+        }
+    }
+    true
 }
 
 fn has_no_zero(segment: &Segment) -> bool
     ensures { IsTrue result ↔ HasNoZero segment.now }
 {
-    segment
-        .numbers
-        .as_slice()
-        .iter()
-        .all(|number| *number != NO_AS)
+    'numbers: for number in segment.numbers.as_slice() {
+        if *number == NO_AS {
+            return false;
+        }
+    }
+    true
 }
 
 fn is_formed_by_as(aggregator: &Option<Aggregator>) -> bool

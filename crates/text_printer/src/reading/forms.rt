@@ -4,10 +4,11 @@ ghost use Rattle.text_forms.specs.Lines.{without_return};
 ghost use Rattle.text_printer.specs.Forms.{IsDigitsOf, IsIntroduction, IsNeighbor};
 ghost use Rattle.text_printer.specs.Forms.{IsPlace};
 
+use crate::reading::is;
 use text_forms::{cut, octet};
 
-// The word that the line of a printed message begins with, and the space behind it.
-const UPDATE: &[u8] = b"update ";
+// The word that the line of a printed message begins with.
+const UPDATE: &[u8] = b"update";
 
 // What stands between the words of a line.
 const SPACE: u8 = b' ';
@@ -42,10 +43,10 @@ fn introduced(line: &[u8]) -> Option<&[u8]>
     ensures none { IfNone result ((front rest : List ℕ) → IsIntroduction front
         → line.now ≡ front ++ rest → ⊥) }
 {
-    let rest = line.strip_prefix(UPDATE)?;
+    let (word, rest) = cut(line, SPACE)?;
     let (number, rest) = cut(rest, SPACE)?;
     let (place, digits) = cut(rest, SPACE)?;
-    if is_neighbor(number) && is_place(place) {
+    if is(word, UPDATE) && is_neighbor(number) && is_place(place) {
         Some(digits)
     } else {
         None
@@ -64,5 +65,5 @@ fn is_neighbor(number: &[u8]) -> bool
 fn is_place(word: &[u8]) -> bool
     ensures { IsTrue result ↔ IsPlace word.now }
 {
-    word == b"more" || word == b"last"
+    is(word, b"more") || is(word, b"last")
 }

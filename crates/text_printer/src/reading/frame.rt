@@ -1,9 +1,10 @@
 //! The message that bytes are.
-ghost use Rattle.std.specs.Prelude.{◌≡◌, [], ◌∷◌, ◌++◌, List, ℕ, IfSome, IfNone, replicate};
+ghost use Rattle.std.specs.Prelude.{◌≡◌, ◌≤◌, [], ◌∷◌, ◌++◌, List, ℕ, IfSome, IfNone, replicate};
 ghost use Rattle.std.specs.Int.{w16, to_be_bytes};
 ghost use Rattle.frame_cutter.specs.Frames.{greatest};
 ghost use Rattle.text_printer.specs.Forms.{IsUpdate, wide_of};
 
+use crate::reading::is;
 use frame_cutter::kinds::{HEADER_LEN, MAX_LEN, MAX_LONG_LEN, UPDATE};
 use route_values::Caps;
 
@@ -14,19 +15,25 @@ const ONES: u8 = 0xFF;
 const MIN_UPDATE: usize = 23;
 
 /// The body of the UPDATE that the bytes are, or None where they aren't one whole UPDATE and nothing more.
-pub fn update_body(bytes: &[u8], caps: &Caps) -> Option<&[u8]>
+pub fn update_body<'a>(bytes: &'a [u8], caps: &Caps) -> Option<&'a [u8]>
     ensures found { IfSome result (λ body. IsUpdate caps.now bytes.now body.now) }
     ensures none { IfNone result ((body : List ℕ) → IsUpdate caps.now bytes.now body → ⊥) }
 {
     if bytes.len() < MIN_UPDATE || bytes.len() > greatest(caps) {
         return None;
     }
-    bytes.strip_prefix(&header(bytes.len() as u16))
+    let (front, body) = bytes.split_at(HEADER_LEN);
+    if is(front, &header(bytes.len() as u16)) {
+        Some(body)
+    } else {
+        None
+    }
 }
 
 // How long a message may be.
 fn greatest(caps: &Caps) -> usize
-    ensures { result ≡ greatest (wide_of caps.now) }
+    ensures value { result ≡ greatest (wide_of caps.now) }
+    ensures small { result ≤ 65535 }
 {
     if caps.extended() {
         MAX_LONG_LEN
