@@ -5,4 +5,10 @@ pub mod WordLemmas
 pub mod CleanLemmas
 pub mod MergedLemmas
 pub mod FrameLemmas
+pub mod SaidLemmas
+pub mod PathLemmas
+pub mod ItemLemmas
+pub mod RisingLemmas
+pub mod WrittenLemmas
+pub mod FoundLemmas
 pub mod ScratchLemmas
