@@ -101,7 +101,7 @@ module _ (Ext : List ℕ → Type 0) (ext_said : (bytes : List ℕ) → Ext byte
             (items_between (key.id == 0) key.id sent),
         sym (attrs_written key.id sent),
       ) in
-      inr (inr (
+      inr (inr (inr (
         verb.Announce,
         Word (codes "announce") ∷ [],
         Word (codes "route") ∷ Word (prefix_text key.prefix) ∷ tokens,
@@ -122,7 +122,7 @@ module _ (Ext : List ℕ → Type 0) (ext_said : (bytes : List ℕ) → Ext byte
             (said_of key.id sent, tokens, [], sym (append-nil tokens), items, (refl, refl, refl)),
           ),
         ),
-      ))
+      )))
 
 pub gone_found : (key : Key) → IsKey key
     → ReadsLine in_force (effect_tokens (Gone key)) (said.Withdraw [] (key ∷ []))
@@ -135,7 +135,7 @@ gone_found key is_key =
       rising_differ 0 1 [] (id_items (key.id == 0) key.id) tt (id_between (key.id == 0) key.id),
       sym (id_written key.id),
     ) in
-    inr (inr (
+    inr (inr (inr (
       verb.Withdraw,
       Word (codes "withdraw") ∷ [],
       Word (codes "route") ∷ Word (prefix_text key.prefix) ∷ tokens,
@@ -156,4 +156,4 @@ gone_found key is_key =
           (with_id key.id, tokens, [], sym (append-nil tokens), items, (refl, refl)),
         ),
       ),
-    ))
+    )))

@@ -1,11 +1,11 @@
 -- Texts that go on with tokens.
 use Rattle.std.proofs.Common.{ℕ, ◌≡◌, ◌+◌, ◌<◌, List, [], ◌∷◌, ◌++◌, length, map, take, get_or, ap, sym, ◌∙◌, refl}
-use Rattle.std.proofs.Common.{append_assoc, append-nil}
+use Rattle.std.proofs.Common.{append_assoc, append-nil, arith}
 use Rattle.std.specs.List.{flat_map}
 use Rattle.std.proofs.lemmas.List.{map_more, take_more}
 use Rattle.std.proofs.lemmas.List.Concat.{flat_map-append}
 use Rattle.token_reader.specs.Tokens.{Token, Word}
-use Rattle.text_printer.specs.Items.{word_each}
+use Rattle.text_printer.specs.Items.{opening_bracket, closing_bracket, word_each, listed}
 use Rattle.text_printer.specs.Spaced.{token_text, led, all_led, GoesOn}
 
 -- no token
@@ -48,3 +48,11 @@ goes_along tokens values i value old between new within is front back =
     ∙ ap (λ one. take i values ++ one ∷ []) is)
     ∙ flat_map-append tokens (take i values) (value ∷ [])
     ∙ ap (λ (last : List Token). flat_map tokens (take i values) ++ last) (append-nil (tokens value))))
+
+-- a list that isn't empty has its name and brackets
+pub listed_some : {V : Type 0} (name : List ℕ) (text : V → List ℕ) (values : List V) (old new : List ℕ)
+    → 0 < length values
+    → GoesOn (Word name ∷ opening_bracket ∷ (word_each text values ++ closing_bracket ∷ [])) old new
+    → GoesOn (listed name text values) old new
+listed_some name text [] old new some goes_on = absurd (omega arith)
+listed_some name text (value ∷ values) old new some goes_on = goes_on

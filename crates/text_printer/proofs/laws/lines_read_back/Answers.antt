@@ -1,0 +1,14 @@
+-- The law, clause by clause.
+use Rattle.text_printer.specs.Printing.{effect_tokens}
+use Rattle.text_printer.proofs.CleanLemmas.{clean_effect}
+use Rattle.text_printer.proofs.TokenLemmas.{spaced_tokens}
+use Rattle.text_printer.proofs.laws.lines_read_back.Goals as goal
+
+pub returns-clause-tokens : goal.returns-clause-tokens
+returns-clause-tokens c = λ effect is. spaced_tokens (effect_tokens effect) (clean_effect effect is)
+
+pub returns-clause-short : goal.returns-clause-short
+returns-clause-short c = ?
+
+pub returns-clause-reads_back : goal.returns-clause-reads_back
+returns-clause-reads_back c = ?
