@@ -11,4 +11,5 @@ pub mod ItemLemmas
 pub mod RisingLemmas
 pub mod WrittenLemmas
 pub mod FoundLemmas
+pub mod FormLemmas
 pub mod ScratchLemmas
