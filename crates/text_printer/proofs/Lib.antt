@@ -6,10 +6,13 @@ pub mod CleanLemmas
 pub mod MergedLemmas
 pub mod FrameLemmas
 pub mod SaidLemmas
+pub mod ExtendedLemmas
 pub mod PathLemmas
 pub mod ItemLemmas
 pub mod RisingLemmas
 pub mod WrittenLemmas
 pub mod FoundLemmas
 pub mod FormLemmas
+pub mod LengthLemmas
+pub mod ReadBackLemmas
 pub mod ScratchLemmas

@@ -1,5 +1,5 @@
 -- The law of printing: the line of an effect reads back, and tells just that effect.
-use Rattle.std.specs.Prelude.{ℕ, ◌≡◌, ◌≤◌, ◌<◌, ◌^◌, ⊤, List, [], ◌∷◌, length, Ok}
+use Rattle.std.specs.Prelude.{ℕ, ◌≡◌, ◌≤◌, ◌<◌, ◌^◌, List, [], ◌∷◌, length, Ok}
 use Rattle.std.specs.List.{AllByRecursion}
 use Rattle.route_values.specs.declared.key.Key.{Key}
 use Rattle.route_values.specs.declared.attrs.WireAttrs.{WireAttrs}
@@ -7,10 +7,12 @@ use Rattle.route_values.specs.Key.{family_of_key}
 use Rattle.route_values.specs.Prefix.{IsPrefix}
 use Rattle.text_forms.specs.Lines.{Text}
 use Rattle.token_reader.specs.LineTokens.{line_tokens}
+use Rattle.route_grammar.specs.Limits.{in_force}
 use Rattle.update_grammar.specs.declared.effect.Effect.{Effect}
 use Rattle.update_grammar.specs.declared.effect.Effect.TheVariants.{Gone, Here}
 use Rattle.update_grammar.specs.Written.{IsSendable}
 use Rattle.command_grammar.specs.declared.command.Command.{Command}
+use Rattle.command_grammar.specs.Lines.{ReadsLine}
 use Rattle.command_grammar.specs.Readings.{Says}
 use Rattle.text_printer.specs.Printable.{IsPrintable}
 use Rattle.text_printer.specs.Printing.{effect_tokens, effect_text}
@@ -33,6 +35,11 @@ abbrev pub IsEffect : Effect → Type 0
 IsEffect (Gone key) = IsKey key
 IsEffect (Here key sent) = IsKey key × IsSendable (family_of_key key) sent × AllByRecursion AreBytes sent.extended
 
+-- the line is read as a command that tells just what the effect does
+abbrev pub HasReading : Effect → List ℕ → Type 0
+HasReading effect line =
+    (command : Command) × ReadsLine in_force (line_tokens 0 line) command × (told_by command ≡ told_of effect ∷ [])
+
 -- one command that a line says, which tells just what the effect does
 abbrev pub TellsEffect : Effect → List ℕ → Type 0
 TellsEffect effect line =
@@ -46,6 +53,10 @@ LinesHaveTheirTokens = (effect : Effect) → IsEffect effect → line_tokens 0 (
 abbrev pub LinesAreShort : Type 0
 LinesAreShort = (effect : Effect) → IsEffect effect → IsPrintable effect → length (effect_text effect) ≤ 65535
 
--- the line of an effect that can be printed reads back
+-- the line of an effect that can be printed has a reading
+abbrev pub LinesHaveReadings : Type 0
+LinesHaveReadings = (effect : Effect) → IsEffect effect → IsPrintable effect → HasReading effect (effect_text effect)
+
+-- and has no other: it reads back
 abbrev pub LinesReadBack : Type 0
 LinesReadBack = (effect : Effect) → IsEffect effect → IsPrintable effect → TellsEffect effect (effect_text effect)

@@ -1,5 +1,6 @@
 //! The law of printing.
-ghost use Rattle.text_printer.specs.Laws.{LinesHaveTheirTokens, LinesAreShort, LinesReadBack};
+ghost use Rattle.text_printer.specs.Laws.{LinesAreShort, LinesHaveReadings};
+ghost use Rattle.text_printer.specs.Laws.{LinesHaveTheirTokens, LinesReadBack};
 
 /// The line of an effect says just that effect: the grammar of commands reads it, in one way, as the announcement or
 /// withdrawal of the effect's key, with its attributes as a command writes them.
@@ -8,10 +9,12 @@ ghost use Rattle.text_printer.specs.Laws.{LinesHaveTheirTokens, LinesAreShort, L
 /// the law.
 ///
 /// - `tokens`: the line is cut into just the tokens that it was printed from.
+/// - `reads`: the tokens are read as a command that tells just what the effect does.
 /// - `short`: the line has at most 65,535 bytes.
-/// - `reads_back`: one command says it, which tells just what the effect does.
+/// - `reads_back`: that command is the one that the line says.
 pub fn lines_read_back()
     ensures tokens { LinesHaveTheirTokens }
+    ensures reads { LinesHaveReadings }
     ensures short { LinesAreShort }
     ensures reads_back { LinesReadBack }
 {}

@@ -1,11 +1,15 @@
 -- The law, clause by clause.
 use Rattle.text_printer.specs.Printing.{effect_tokens}
 use Rattle.text_printer.proofs.CleanLemmas.{clean_effect}
+use Rattle.text_printer.proofs.ReadBackLemmas.{effect_found}
 use Rattle.text_printer.proofs.TokenLemmas.{spaced_tokens}
 use Rattle.text_printer.proofs.laws.lines_read_back.Goals as goal
 
 pub returns-clause-tokens : goal.returns-clause-tokens
 returns-clause-tokens c = λ effect is. spaced_tokens (effect_tokens effect) (clean_effect effect is)
+
+pub returns-clause-reads : goal.returns-clause-reads
+returns-clause-reads c = effect_found
 
 pub returns-clause-short : goal.returns-clause-short
 returns-clause-short c = ?
