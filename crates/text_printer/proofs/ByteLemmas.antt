@@ -26,13 +26,11 @@ other_byte b no_blank no_mark =
 -- the digit of a value below 16, of either case
 pub digit_byte : (b : ℕ) → digit_value b < 16 → IsWordByte b
 digit_byte b small =
-    other_byte b
-    (
+    other_byte b (
       (λ same. let value = ap digit_value same in omega (arith, value)),
       (λ same. let value = ap digit_value same in omega (arith, value)),
       tt,
-    )
-    (
+    ) (
       (λ same. let value = ap digit_value same in omega (arith, value)),
       (λ same. let value = ap digit_value same in omega (arith, value)),
       (λ same. let value = ap digit_value same in omega (arith, value)),

@@ -53,7 +53,7 @@ encoded_value (byte ∷ bytes) n are =
     let high = lower_value (byte / 16) (omega arith) in
     let low = lower_value (byte % 16) (omega arith) in
     let both : (n * 16 + digit_value (get_or lower_digits (byte / 16) 0)) * 16
-        + digit_value (get_or lower_digits (byte % 16) 0) ≡ n * 256 + byte = omega (arith, high, low) in
+    + digit_value (get_or lower_digits (byte % 16) 0) ≡ n * 256 + byte = omega (arith, high, low) in
     ap (λ value. digits_value_after 16 value (encode_with lower_digits bytes)) both
     ∙ encoded_value bytes (n * 256 + byte) are.1
 

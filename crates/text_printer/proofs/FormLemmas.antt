@@ -17,9 +17,15 @@ space_no_digit : is_ascii_digit 32 ≡ true → ⊥
 space_no_digit digit = absurd (cc)
 
 update_lacks : Lacks 32 (codes "update")
-update_lacks =
-    ((λ same. omega arith), (λ same. omega arith), (λ same. omega arith), (λ same. omega arith), (λ same. omega arith),
-    (λ same. omega arith), tt)
+update_lacks = (
+  (λ same. omega arith),
+  (λ same. omega arith),
+  (λ same. omega arith),
+  (λ same. omega arith),
+  (λ same. omega arith),
+  (λ same. omega arith),
+  tt,
+)
 
 more_lacks : Lacks 32 (codes "more")
 more_lacks = ((λ same. omega arith), (λ same. omega arith), (λ same. omega arith), (λ same. omega arith), tt)
@@ -56,7 +62,7 @@ pub introduced_once : (line word neighbor place digits front rest : List ℕ) �
     → (word ≡ codes "update") × (neighbor ≡ is.neighbor) × (place ≡ is.place) × (digits ≡ rest)
 introduced_once line word neighbor place digits front rest cut is line_is =
     let whole : word ++ 32 ∷ behind_word neighbor place digits
-        ≡ codes "update" ++ 32 ∷ behind_word is.neighbor is.place rest =
+    ≡ codes "update" ++ 32 ∷ behind_word is.neighbor is.place rest =
     sym cut.line_is ∙ line_is ∙ ap (λ (text : List ℕ). text ++ rest) is.text_is
     ∙ introduced_text is.neighbor is.place rest in
     let first = first_same 32 word (behind_word neighbor place digits) (codes "update")

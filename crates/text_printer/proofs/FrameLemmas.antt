@@ -97,8 +97,10 @@ first_alone wide bytes frame (Whole one) stands is =
   where
     heads : {first second : Frame} {more others : List Frame} → first ∷ more ≡ second ∷ others → first ≡ second
     heads same = cc
+
     tails : {first second : Frame} {more others : List Frame} → first ∷ more ≡ second ∷ others → more ≡ others
     tails same = cc
+
     both : (found : Frames) → found.frames ≡ [] → found.end ≡ Rest [] → found ≡ record { frames = []; end = Rest [] }
     both found frames_are end_is =
         ap (λ (frames : List Frame). let all : Frames = record { frames = frames; end = found.end } in all) frames_are

@@ -3,6 +3,7 @@ use Rattle.std.specs.Prelude.{ℕ, ◌≡◌, ◌≤◌, ◌<◌, ◌^◌, List,
 use Rattle.std.specs.List.{AllByRecursion}
 use Rattle.route_values.specs.declared.key.Key.{Key}
 use Rattle.route_values.specs.declared.attrs.WireAttrs.{WireAttrs}
+use Rattle.route_values.specs.Caps.{Caps}
 use Rattle.route_values.specs.Key.{family_of_key}
 use Rattle.route_values.specs.Prefix.{IsPrefix}
 use Rattle.text_forms.specs.Lines.{Text}
@@ -10,6 +11,7 @@ use Rattle.token_reader.specs.LineTokens.{line_tokens}
 use Rattle.route_grammar.specs.Limits.{in_force}
 use Rattle.update_grammar.specs.declared.effect.Effect.{Effect}
 use Rattle.update_grammar.specs.declared.effect.Effect.TheVariants.{Gone, Here}
+use Rattle.update_grammar.specs.Update.{Spells}
 use Rattle.update_grammar.specs.Written.{IsSendable}
 use Rattle.command_grammar.specs.declared.command.Command.{Command}
 use Rattle.command_grammar.specs.Lines.{ReadsLine}
@@ -60,3 +62,8 @@ LinesHaveReadings = (effect : Effect) → IsEffect effect → IsPrintable effect
 -- and has no other: it reads back
 abbrev pub LinesReadBack : Type 0
 LinesReadBack = (effect : Effect) → IsEffect effect → IsPrintable effect → TellsEffect effect (effect_text effect)
+
+-- the effects that the body of an UPDATE spells are such effects
+abbrev pub SpelledAreEffects : Type 0
+SpelledAreEffects = (caps : Caps) (body : List ℕ) (effects : List Effect) → AreBytes body → Spells caps body effects
+    → AllByRecursion IsEffect effects

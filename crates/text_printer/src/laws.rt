@@ -1,6 +1,7 @@
 //! The law of printing.
 ghost use Rattle.text_printer.specs.Laws.{LinesAreShort, LinesHaveReadings};
 ghost use Rattle.text_printer.specs.Laws.{LinesHaveTheirTokens, LinesReadBack};
+ghost use Rattle.text_printer.specs.Laws.{SpelledAreEffects};
 
 /// The line of an effect says just that effect: the grammar of commands reads it, in one way, as the announcement or
 /// withdrawal of the effect's key, with its attributes as a command writes them.
@@ -8,11 +9,13 @@ ghost use Rattle.text_printer.specs.Laws.{LinesHaveTheirTokens, LinesReadBack};
 /// It stands for effects that a message can have, and that can be printed. The function does nothing: its contract is
 /// the law.
 ///
+/// - `effects`: what the body of an UPDATE spells are such effects.
 /// - `tokens`: the line is cut into just the tokens that it was printed from.
 /// - `reads`: the tokens are read as a command that tells just what the effect does.
 /// - `short`: the line has at most 65,535 bytes.
 /// - `reads_back`: that command is the one that the line says.
 pub fn lines_read_back()
+    ensures effects { SpelledAreEffects }
     ensures tokens { LinesHaveTheirTokens }
     ensures reads { LinesHaveReadings }
     ensures short { LinesAreShort }

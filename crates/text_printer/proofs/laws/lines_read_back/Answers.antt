@@ -5,6 +5,9 @@ use Rattle.text_printer.proofs.ReadBackLemmas.{effect_found}
 use Rattle.text_printer.proofs.TokenLemmas.{spaced_tokens}
 use Rattle.text_printer.proofs.laws.lines_read_back.Goals as goal
 
+pub returns-clause-effects : goal.returns-clause-effects
+returns-clause-effects c = ?
+
 pub returns-clause-tokens : goal.returns-clause-tokens
 returns-clause-tokens c = λ effect is. spaced_tokens (effect_tokens effect) (clean_effect effect is)
 
