@@ -1,5 +1,5 @@
 -- What `decode` writes: for each line of its input the commands that tell the same, or a remark with its first fault.
-use Rattle.std.specs.Prelude.{ℕ, ◌≡◌, ◌==◌, ◌+◌, ◌||◌, Bool, true, codes, List, [], ◌∷◌, ◌++◌, if◌then◌else◌}
+use Rattle.std.specs.Prelude.{ℕ, ◌≡◌, ◌==◌, ◌+◌, ◌||◌, Bool, true, false, codes, List, [], ◌∷◌, ◌++◌, if◌then◌else◌}
 use Rattle.std.specs.List.{list_any, list_all}
 use Rattle.std.specs.Str.{bytes_eq}
 use Rattle.route_values.specs.Caps.{Caps}
@@ -50,10 +50,10 @@ AreEffectLines (effect ∷ effects) text =
 -- what is written for the line of this number
 pub data IsAnswer (caps : Caps) (number : ℕ) (line : List ℕ) : List ℕ → Type 0 where
   passed_over : is_passed_over line ≡ true → IsAnswer caps number line []
-  told : (effects : List Effect) (text : List ℕ) → Tells caps line effects → AreEffectLines effects text
-      → IsAnswer caps number line text
-  refused : (unread : Unread) (text : List ℕ) → IsUnread caps line unread → IsRefusal number unread text
-      → IsAnswer caps number line (ended text)
+  told : (effects : List Effect) (text : List ℕ) → is_passed_over line ≡ false → Tells caps line effects
+      → AreEffectLines effects text → IsAnswer caps number line text
+  refused : (unread : Unread) (text : List ℕ) → is_passed_over line ≡ false → IsUnread caps line unread
+      → IsRefusal number unread text → IsAnswer caps number line (ended text)
 
 -- what is written for lines of which the first has this number
 abbrev pub AreAnswers : Caps → ℕ → List (List ℕ) → List ℕ → Type 0
