@@ -238,7 +238,7 @@ queue_grown table new chain more room queue same_items grows space grown =
 
 pub queues_grown : (table new : List ℕ) (waiting frozen more_waiting more_frozen : Listing) (room : ℕ)
     → AreQueues table waiting frozen → more_waiting.items ≡ waiting.items → more_frozen.items ≡ frozen.items
-    → length table ≤ room → 2 * room < 2 ^ 64 → 2 * room + 1 ≤ more_waiting.room → 2 * room + 1 ≤ more_frozen.room
+    → length table ≤ room → 2 * room < 2 ^ 32 → 2 * room + 1 ≤ more_waiting.room → 2 * room + 1 ≤ more_frozen.room
     → IsGrown table new room → AreQueues new more_waiting more_frozen
 queues_grown table new waiting frozen more_waiting more_frozen room queues same_waiting same_frozen grows fits
     space_waiting space_frozen grown =

@@ -34,7 +34,7 @@ pub record IsQueue (table : List ℕ) (chain : Listing) : Type 0 where
 
 -- both chains are such lists, and no node is in both
 pub record AreQueues (table : List ℕ) (waiting frozen : Listing) : Type 0 where
-  pub fits : 2 * length table < 2 ^ 64
+  pub fits : 2 * length table < 2 ^ 32
   pub first : IsQueue table waiting
   pub second : IsQueue table frozen
   pub once : (node : ℕ) → has_node node (parse waiting.items) ≡ true → has_node node (parse frozen.items) ≡ false

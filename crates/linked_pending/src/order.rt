@@ -78,8 +78,8 @@ impl Order {
         node_of(self.chain.after(node + 1))
     }
 
-    /// Makes room for the nodes below `nodes`. Where it fails the list is as before; it fails at `usize::MAX` nodes, as
-    /// the list needs a place besides theirs.
+    /// Makes room for the nodes below `nodes`. Where it fails the list is as before; it fails at 2^32 nodes and more,
+    /// as the list needs a place besides theirs, and a place is a number of 32 bits.
     pub fn reserve(&mut self, nodes: usize) -> Result<(), NoMemory>
         ensures ok { OnOk result (self.new ≡ record self.old { room = max self.old.room nodes }) }
         ensures err { OnErr result (self.new ≡ self.old) }

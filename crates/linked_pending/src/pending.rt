@@ -13,9 +13,9 @@ use std::alloc::Global;
 use std::marker::Model;
 use std::mem;
 
-// The greatest room: a node and a group have a place each, and with the chain's own there are as many places as a usize
-// can count.
-const MOST: usize = usize::MAX / 2;
+// The greatest room: a node and a group have a place each, and with the chain's own there are as many places as a link
+// of 32 bits can name.
+const MOST: usize = u32::MAX as usize / 2;
 
 /// Where a node stands: in which group, and which node it is.
 #[derive(Clone, Copy, Debug, PartialEq, Eq)]
@@ -38,7 +38,7 @@ pub struct Place {
 pub struct Pending {
     waiting: Chain,
     frozen: Chain,
-    groups: Vec<usize>,
+    groups: Vec<u32>,
 }
 
 impl Model for Pending {
@@ -95,7 +95,7 @@ impl Pending {
         }
         let node = first / 2;
         Some(Place {
-            group: self.groups[node],
+            group: self.groups[node] as usize,
             node,
         })
     }
@@ -105,14 +105,15 @@ impl Pending {
         ensures { result ≡ group_of node self.now.frozen }
     {
         if node < self.groups.len() && self.frozen.contains(2 * node + 1) {
-            Some(self.groups[node])
+            Some(self.groups[node] as usize)
         } else {
             None
         }
     }
 
     /// Makes room for the nodes below `nodes` and the groups below `groups`; the room is the greater of the two. Where
-    /// it fails the lists are as before; it fails at 2^63 and more, as each node and each group has a place of its own.
+    /// it fails the lists are as before; it fails at 2^31 and more, as each node and each group has a place of its own,
+    /// and a place is a number of 32 bits.
     pub fn reserve(&mut self, nodes: usize, groups: usize) -> Result<(), NoMemory>
         ensures ok { OnOk result (self.new ≡ record self.old {
           room = max self.old.room (max nodes groups);
@@ -143,7 +144,9 @@ impl Pending {
         requires not_frozen { group_of node self.old.frozen ≡ None }
         ensures { self.new ≡ record self.old { waiting = with_node group node self.old.waiting } }
     {
-        self.groups[node] = group;
+        // The place is borrowed before the cast, as that tells the proof that the group is below the room.
+        let place = &mut self.groups[node];
+        *place = group as u32;
         put(&mut self.waiting, &self.groups, node);
     }
 
@@ -179,9 +182,9 @@ impl Pending {
 }
 
 // Puts a node that isn't in the chain at the end of the group that the table gives it.
-fn put(chain: &mut Chain, groups: &[usize], node: usize)
+fn put(chain: &mut Chain, groups: &[u32], node: usize)
     requires queue { IsQueue groups.now chain.old }
-    requires fits { 2 * length groups.now < 2 ^ 64 }
+    requires fits { 2 * length groups.now < 2 ^ 32 }
     requires node { node < length groups.now }
     requires group { link groups.now node < length groups.now }
     requires absent { has_node node (parse chain.old.items) ≡ false }
@@ -189,7 +192,7 @@ fn put(chain: &mut Chain, groups: &[usize], node: usize)
     ensures items { parse chain.new.items
         ≡ with_node (link groups.now node) node (parse chain.old.items) }
 {
-    let end = 2 * groups[node] + 2;
+    let end = 2 * groups[node] as usize + 2;
     open_group(chain, end);
     chain.insert_before(end, 2 * node + 1);
 }
@@ -206,9 +209,9 @@ fn open_group(chain: &mut Chain, end: usize)
 }
 
 // Takes a node out of the chain, where it is in it, and its group's end where it was the last.
-fn take_out(chain: &mut Chain, groups: &[usize], node: usize)
+fn take_out(chain: &mut Chain, groups: &[u32], node: usize)
     requires queue { IsQueue groups.now chain.old }
-    requires fits { 2 * length groups.now < 2 ^ 64 }
+    requires fits { 2 * length groups.now < 2 ^ 32 }
     requires node { node < length groups.now }
     ensures queue { IsQueue groups.now chain.new }
     ensures items { parse chain.new.items ≡ without_node node (parse chain.old.items) }
@@ -217,7 +220,7 @@ fn take_out(chain: &mut Chain, groups: &[usize], node: usize)
         return;
     }
     chain.remove(2 * node + 1);
-    let end = 2 * groups[node] + 2;
+    let end = 2 * groups[node] as usize + 2;
     if chain.before(end) % 2 == 0 {
         chain.remove(end);
     }

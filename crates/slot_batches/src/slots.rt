@@ -7,7 +7,7 @@ ghost use Rattle.std.specs.Prelude.{max, OnOk, OnErr, IfOk, IsNone, IsTrue, Matc
 ghost use Rattle.std.specs.Option.{option_map};
 ghost use Rattle.linked_pending.specs.Links.{link};
 ghost use Rattle.slot_batches.specs.Left.{value_left};
-ghost use Rattle.slot_batches.specs.Slots.{Opens, is_idle};
+ghost use Rattle.slot_batches.specs.Slots.{Opens, flag_of, is_idle};
 
 use crate::queues::{empty, flag_of, mark, renew, settle, unmark};
 use answers::NoMemory;
@@ -224,6 +224,13 @@ impl Slots {
         ensures { result ≡ is_idle self.now slot }
     {
         self.nows[slot] <= 1 && self.sents[slot] <= 1 && self.left(slot).is_none()
+    }
+
+    /// Whether slots of a parity that have a value are to be sent again by the next batch.
+    pub fn is_again(&self, parity: usize) -> bool
+        ensures { result ≡ flag_of self.now.even_again self.now.odd_again parity }
+    {
+        flag_of(self.even_again, self.odd_again, parity)
     }
 
     /// How many slots there are.

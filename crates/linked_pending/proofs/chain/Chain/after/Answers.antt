@@ -11,5 +11,5 @@ returns c =
     let items = ap (λ (listing : Listing). listing.items) c.self.view_is in
     let there = subst (λ (places : List ℕ). has c.args.place (0 ∷ places) ≡ true) (sym items) c.requires.there in
     read
-    ∙ leads_behind _ c.args.place 0 _ 0 c.self.invariant.holds.leads there
+    ∙ leads_behind _ c.args.place 0 _ 0 c.self.invariant.0.holds.leads there
     ∙ ap (λ (places : List ℕ). behind_or 0 c.args.place (0 ∷ places)) items

@@ -12,5 +12,5 @@ returns c =
     let items = ap (λ (listing : Listing). listing.items) c.self.view_is in
     let there = subst (λ (places : List ℕ). has c.args.place places ≡ true) (sym items) c.requires.there in
     read
-    ∙ holds_before _ _ _ c.self.invariant.links c.self.invariant.holds c.args.place (omega arith) there
+    ∙ holds_before _ _ _ c.self.invariant.0.links c.self.invariant.0.holds c.args.place (omega arith) there
     ∙ ap (λ (places : List ℕ). before_from 0 c.args.place places) items

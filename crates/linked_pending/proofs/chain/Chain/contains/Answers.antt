@@ -10,5 +10,5 @@ returns c =
     let read : c.index.result.now ≡ link c.self.inside.nexts.items c.args.place = grind (arith, common_steps) in
     let room : c.args.place < length c.self.inside.nexts.items = search rules in
     ap (λ (behind : ℕ). not (eqb behind c.args.place)) read
-    ∙ holds_contains _ _ c.self.invariant.holds c.args.place c.requires.item room
+    ∙ holds_contains _ _ c.self.invariant.0.holds c.args.place c.requires.item room
     ∙ ap (λ (listing : Listing). has c.args.place listing.items) c.self.view_is

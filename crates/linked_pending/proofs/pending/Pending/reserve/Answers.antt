@@ -9,7 +9,7 @@ pub invariant_of-self-then-len-room : goal.invariant_of-self-then-len-room
 invariant_of-self-then-len-room c =
     let len : c.len-len.result ≡ length c.self.inside.groups.items = search rules in
     let grows : length c.self.inside.groups.items ≤ c.max-room.result = omega arith in
-    let fits : 2 * c.max-room.result < 2 ^ 64 = grind (arith, common_steps) in
+    let fits : 2 * c.max-room.result < 2 ^ 32 = grind (arith, common_steps) in
     let waiting = c.in_ok-reserve.ensures.ok in
     let frozen = c.in_ok-reserve-2.ensures.ok in
     let room_waiting = ap (λ (listing : Listing). listing.room) waiting in
