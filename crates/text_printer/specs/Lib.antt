@@ -1,0 +1,10 @@
+pub mod Told
+pub mod Plain
+pub mod Spaced
+pub mod Items
+pub mod Printing
+pub mod Printable
+pub mod Forms
+pub mod Reading
+pub mod Refusals
+pub mod Laws
