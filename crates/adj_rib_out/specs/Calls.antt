@@ -1,6 +1,6 @@
 -- What each call does to the table, and what it leaves as it is.
 use Rattle.std.specs.Prelude.{ℕ, ◌≡◌, ◌↔◌, ◌⊎◌, ◌==◌, ◌||◌, Bool, true, false, List, [], ◌∷◌}
-use Rattle.std.specs.Prelude.{drop}
+use Rattle.std.specs.Prelude.{drop, map}
 use Rattle.std.specs.Prelude.{if◌then◌else◌, Option, Some, None, IsTrue, IsSome}
 use Rattle.std.specs.Option.{option_map}
 use Rattle.route_values.specs.declared.addr.Family.{Family}
@@ -12,7 +12,8 @@ use Rattle.route_values.specs.declared.settings.Side.{Side}
 use Rattle.route_values.specs.Caps.{Caps}
 use Rattle.route_values.specs.Key.{same_key}
 use Rattle.route_values.specs.Sent.{sent}
-use Rattle.adj_rib_out.specs.State.{State, Session, Route, Item, is_ready, route_at, told_at, value_at, shown_at}
+use Rattle.adj_rib_out.specs.State.{State, Row, Session, Route, Item}
+use Rattle.adj_rib_out.specs.State.{is_ready, route_at, told_at, value_at, shown_at}
 use Rattle.adj_rib_out.specs.Batch.{IsOwed, owed_markers, attrs_said, item_at, is_left, AreOnce, AreTogether}
 use Rattle.adj_rib_out.specs.Batch.{AreNumberedAlike}
 
@@ -37,8 +38,13 @@ pub record KeepsBatch (old new : State) : Type 0 where
   pub left : new.left ≡ old.left
   pub markers : new.markers ≡ old.markers
 
--- so does what stands ready
+-- the keys of rows, at their places
+abbrev pub places_of : State → List (Option Key)
+places_of state = map (option_map (λ (row : Row). row.key)) state.rows
+
+-- so does what stands ready, each key at its place
 pub record KeepsReady (old new : State) : Type 0 where
+  pub places : places_of new ≡ places_of old
   pub keys : (key : Key) → is_ready new key ≡ is_ready old key
   pub values : (number : ℕ) → value_at new number ≡ value_at old number
 

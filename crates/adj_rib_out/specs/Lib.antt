@@ -2,3 +2,15 @@ pub mod State
 pub mod Batch
 pub mod Nodes
 pub mod Calls
+pub mod Told
+pub mod Places
+pub mod KeyPlaces
+pub mod Placing
+pub mod Readying
+pub mod Trimming
+pub mod Kept
+pub mod Shown
+pub mod Stock
+pub mod Readied
+pub mod Trimmed
+pub mod Counts

@@ -1,9 +1,11 @@
 -- What is asked of a table: its pairs by their places, what is due, and the route nodes, which are the keys that
 -- something is kept for.
-use Rattle.std.specs.Prelude.{ℕ, ◌||◌, Bool, false, List, [], ◌∷◌, Option, Some, None, is_some, slice_get, count_by}
+use Rattle.std.specs.Prelude.{ℕ, ◌≡◌, ◌||◌, Bool, true, false, List, [], ◌∷◌, Option, Some, None, is_some}
+use Rattle.std.specs.Prelude.{slice_get, count_by}
 use Rattle.std.specs.Option.{option_map, option_and_then}
 use Rattle.route_values.specs.declared.addr.Family.{Family}
 use Rattle.route_values.specs.declared.key.Key.{Key}
+use Rattle.route_values.specs.Key.{same_key}
 use Rattle.adj_rib_out.specs.State.{State, Row, Route, Item, route_at, told_at}
 use Rattle.adj_rib_out.specs.Batch.{item_at}
 
@@ -48,3 +50,8 @@ is_node_row state (Some row) = is_node state row.key
 -- how many nodes there are
 abbrev pub nodes : State → ℕ
 nodes state = count_by (is_node_row state) state.rows
+
+-- a key has a row at one place
+abbrev pub AreApart : List (Option Row) → Type 0
+AreApart rows = (i j : ℕ) (a b : Row) → slice_get rows i ≡ Some (Some a) → slice_get rows j ≡ Some (Some b)
+    → same_key a.key b.key ≡ true → i ≡ j

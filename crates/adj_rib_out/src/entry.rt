@@ -1,6 +1,10 @@
 //! What is told of a table.
 
-use route_values::{Attrs, Family, Key, WireAttrs};
+ghost use Rattle.std.specs.Prelude.{◌≡◌, option_copied};
+ghost use Rattle.std.specs.Option.{option_map};
+ghost use Rattle.adj_rib_out.specs.Told.{route_told, pair_if};
+
+use route_values::{Attrs, Key, WireAttrs};
 
 /// Who asked for a route.
 #[derive(Clone, Copy, Debug, PartialEq, Eq)]
@@ -21,16 +25,16 @@ pub struct Entry<'a> {
     pub owner: Owner,
 }
 
-/// What a batch says next.
-#[derive(Clone, Copy)]
-pub enum Due<'a> {
-    /// The key is withdrawn.
-    Gone(&'a Key),
-    /// The key is announced with these attributes. Within a batch two announcements have the same number exactly where
-    /// their families and attributes are equal.
-    Here(usize, &'a Key, &'a WireAttrs),
-    /// The End-of-RIB marker of the family (RFC 4724, section 2).
-    End(Family),
-    /// No batch is open.
-    Empty,
+/// A key with its route, where both stand.
+pub fn pair<'a>(key: Option<&'a Key>, entry: Option<Entry<'a>>) -> Option<(&'a Key, Entry<'a>)>
+    ensures { option_map (λ pair. (pair.0.now, route_told pair.1)) result
+        ≡ pair_if (option_copied key.entry) (option_map route_told entry.entry) }
+{
+    match key {
+        Some(key) => match entry {
+            Some(entry) => Some((key, entry)),
+            None => None,
+        },
+        None => None,
+    }
 }
