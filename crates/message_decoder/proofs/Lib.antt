@@ -1,0 +1,4 @@
+pub mod LineLemmas
+pub mod WritingLemmas
+pub mod EffectLemmas
+pub mod DecodedLemmas
