@@ -12,7 +12,7 @@ mod fault;
 mod file;
 mod first_words;
 mod heard;
-mod joined;
+pub mod joined;
 mod keyed;
 mod keywords;
 mod laws;
@@ -25,7 +25,7 @@ mod settings;
 mod spellings;
 mod statements;
 mod statics;
-mod words;
+pub mod words;
 mod written;
 
 pub use fault::ConfigError;

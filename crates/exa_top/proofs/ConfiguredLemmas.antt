@@ -9,7 +9,7 @@ use Rattle.config_reader.specs.Files.{too_long}
 use Rattle.exa_top.specs.Configured.{IsFaultAt, IsUnread, status_unread}
 
 -- some list has more elements than a limit
-more_than : (limit : ℕ) → (bytes : List ℕ) × (limit < length bytes)
+pub more_than : (limit : ℕ) → (bytes : List ℕ) × (limit < length bytes)
 more_than limit = (replicate (limit + 1) 0, omega (arith, length-replicate {A = ℕ} (limit + 1) 0))
 
 -- a file that is too long is refused for that

@@ -12,3 +12,4 @@ pub mod ParsedLemmas
 pub mod CheckedLemmas
 pub mod CompleteLemmas
 pub mod ConfiguredLemmas
+pub mod HealthLemmas

@@ -8,3 +8,4 @@ pub mod Top
 pub mod Slots
 pub mod Status
 pub mod Messages
+pub mod Health

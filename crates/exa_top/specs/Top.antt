@@ -41,6 +41,8 @@ help_text =
     ++ codes "           reads a configuration file, writes ok or says what its first fault is\n"
     ++ codes "       exabgpd parse\n"
     ++ codes "           reads command lines, writes for each whether it reads or where its first fault is\n"
+    ++ codes "       exabgpd healthcheck FILE\n"
+    ++ codes "           as a helper, announces prefixes while a check program succeeds\n"
     ++ codes "       exabgpd --help\n" ++ codes "           writes this text\n"
     ++ codes "       exabgpd --version\n" ++ codes "           writes the name and the version\n"
 

@@ -45,8 +45,8 @@ pub fn configured<F: Files>(
     }
 }
 
-// How a command ends whose file wasn't read whole.
-fn status_of(unread: Unread) -> Status
+/// How a command ends whose file wasn't read whole.
+pub fn status_of(unread: Unread) -> Status
     ensures { result ≡ status_unread unread }
 {
     match unread {

@@ -12,6 +12,7 @@ mod answering;
 mod command;
 mod configured;
 mod encoding;
+mod health;
 mod messages;
 mod parsing;
 mod status;
@@ -19,6 +20,7 @@ mod table;
 mod top;
 mod words;
 
+pub use health::exabgp_health;
 pub use status::{STATUS_ROOM, Status};
 pub use top::exabgp_text;
 

@@ -47,6 +47,8 @@ const HELP: &[u8] = b"usage: exabgpd encode LOCAL_AS PEER_AS LOCAL_IP\n\
 \x20          reads a configuration file, writes ok or says what its first fault is\n\
 \x20      exabgpd parse\n\
 \x20          reads command lines, writes for each whether it reads or where its first fault is\n\
+\x20      exabgpd healthcheck FILE\n\
+\x20          as a helper, announces prefixes while a check program succeeds\n\
 \x20      exabgpd --help\n\
 \x20          writes this text\n\
 \x20      exabgpd --version\n\

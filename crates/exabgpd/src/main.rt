@@ -1,10 +1,12 @@
-//! The program: it makes the devices, runs the text command that its arguments spell, and ends with the command's
-//! status. What it writes on standard error is one line, where the command didn't end well.
+//! The program: it makes the devices, runs the command that its arguments spell, and ends with the command's status.
+//! What it writes on standard error is one line, where the command didn't end well.
 #![tactic(auto)]
 
+mod running;
+
+use crate::running::run;
 use arrayvec::ArrayVec;
-use exa_top::{STATUS_ROOM, Status, exabgp_text};
-use outside_std::{StdFiles, StdInput, StdOutput};
+use exa_top::{STATUS_ROOM, Status};
 use std::io::{ErrorKind, Write};
 use std::process::ExitCode;
 use std::{env, io};
@@ -43,18 +45,4 @@ fn status_of(error: &io::Error) -> Status {
         ErrorKind::InvalidData => Status::Usage,
         _ => Status::NoMemory,
     }
-}
-
-// Runs the command that the words spell, over the system's streams and files.
-fn run(rt: &HostRuntime, words: &[String]) -> Status {
-    let mut texts = Vec::new(rt.alloc());
-    for word in words {
-        if texts.push(word.as_str()).is_err() {
-            return Status::NoMemory;
-        }
-    }
-    let mut files = StdFiles::new(rt);
-    let mut input = StdInput::new(rt.stdin());
-    let mut output = StdOutput::new(rt.stdout());
-    exabgp_text(rt.alloc(), &texts, &mut files, &mut input, &mut output)
 }

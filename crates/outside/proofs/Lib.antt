@@ -1,3 +1,4 @@
 pub mod GivingLemmas
 pub mod ToldLemmas
 pub mod RollLemmas
+pub mod ProbeLemmas

@@ -14,6 +14,7 @@ pub mod Spawning
 pub mod Dialling
 pub mod Receiving
 pub mod Hearing
+pub mod Probing
 pub mod Refusals
 pub mod Holding
 pub mod Kept
@@ -21,4 +22,5 @@ pub mod Rolls
 pub mod Waiting
 pub mod Children
 pub mod Spawners
+pub mod Probes
 pub mod Links

@@ -1,10 +1,8 @@
-//! What a program does with the outside, as traits: files and streams, children with their pipes,
-//! links to peers, a clock, and pauses that can be rung.
-//!
-//! Each object that can fail has a count of its faults: an answer that it failed counts one, and no
-//! other answer counts. Content is optional: where an object tells it, the clauses say which bytes
-//! went through. The objects in memory tell it; the real ones are in `outside_std`. Stands on
-//! `route_values`. No clause speaks of time, or says that a ring arrives.
+//! What a program does with the outside, as traits: files and streams, children with their pipes, links to peers,
+//! probes, a clock, and pauses that can be rung.
+//! Each object that can fail has a count of its faults: an answer that it failed counts one, and no other does. Content
+//! is optional: where an object tells it, the clauses say which bytes went through. The objects in memory tell it; the
+//! real ones are in `outside_std`. Stands on `route_values`. No clause speaks of time, or says that a ring arrives.
 #![tactic(auto)]
 
 mod clock;
@@ -15,6 +13,7 @@ mod files;
 mod link;
 mod memory;
 mod pause;
+mod probe;
 mod reading;
 mod sink;
 mod source;
@@ -36,6 +35,7 @@ pub use memory::kept_sink::KeptSink;
 pub use memory::listed_dialer::MemoryDialer;
 pub use memory::listed_files::MemoryFiles;
 pub use memory::listed_link::MemoryLink;
+pub use memory::listed_probe::{KeptCheck, MemoryProbe};
 pub use memory::listed_sink::MemorySink;
 pub use memory::listed_source::MemorySource;
 pub use memory::listed_spawner::MemorySpawner;
@@ -52,6 +52,7 @@ pub use memory::sure_sink::SureSink;
 pub use memory::sure_source::SureSource;
 pub use memory::sure_spawner::SureSpawner;
 pub use pause::{Pause, Seat};
+pub use probe::{Outcome, Probe};
 pub use reading::{Unread, read_all, read_file};
 pub use sink::{Sink, Write};
 pub use source::{Read, Source};

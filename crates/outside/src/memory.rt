@@ -13,6 +13,7 @@ mod lent;
 pub mod listed_dialer;
 pub mod listed_files;
 pub mod listed_link;
+pub mod listed_probe;
 pub mod listed_sink;
 pub mod listed_source;
 pub mod listed_spawner;

@@ -1,5 +1,5 @@
-//! The traits of `outside` over the system: standard streams, files, children with their pipes, TCP
-//! links, the clock, bells and threads.
+//! The traits of `outside` over the system: standard streams, files, children with their pipes,
+//! programs that check, TCP links, the clock, bells and threads.
 //!
 //! Proved is that each error counts, that an error and a write of no byte are answered as `Failed`,
 //! and that the bytes are those that the reader gave and the writer took. They tell no content:
@@ -16,6 +16,7 @@ mod files;
 mod link;
 mod pipes;
 mod post;
+mod probe;
 mod reader;
 mod spawner;
 #[cfg(test)]
@@ -30,6 +31,7 @@ pub use files::{FileSource, StdFiles};
 pub use link::{StreamLink, TcpLink};
 pub use pipes::{ChildSink, ChildSource, PipeSink, PipeSource};
 pub use post::Post;
+pub use probe::{MAX_CHECK, ProcessProbe};
 pub use reader::{ReaderSource, StdInput};
 pub use spawner::{ProcessLeash, ProcessSpawner};
 pub use writer::{StdOutput, WriterSink};

@@ -55,19 +55,26 @@ impl<'a, R: Processes<Started = SystemProcess>> ProcessSpawner<'a, R> {
         self.faults
     }
 
-    // Starts the program. Its words are UTF-8.
+    // Starts the program.
     fn start(&self, run: &[u8]) -> io::Result<Child> {
-        let Ok(text) = str::from_utf8(run) else {
-            return Err(io::Error::from(ErrorKind::InvalidInput));
-        };
-        let mut words = text.split('\0');
-        let mut command = Command::new(self.alloc, words.next().unwrap_or(""))?;
-        for word in words {
-            command.arg(word)?;
-        }
+        let mut command = command_of(self.alloc, run)?;
         command.stdin(Stdio::piped()).stdout(Stdio::piped());
         command.spawn(self.rt)
     }
+}
+
+/// The command of a program, whose words are UTF-8 and stand one behind the other with a zero byte
+/// between them.
+pub fn command_of(alloc: Global, run: &[u8]) -> io::Result<Command> {
+    let Ok(text) = str::from_utf8(run) else {
+        return Err(io::Error::from(ErrorKind::InvalidInput));
+    };
+    let mut words = text.split('\0');
+    let mut command = Command::new(alloc, words.next().unwrap_or(""))?;
+    for word in words {
+        command.arg(word)?;
+    }
+    Ok(command)
 }
 
 // The child's pipes and its leash. It is ended where they can't be had.
@@ -112,8 +119,8 @@ fn ends_of<'a>(
     Ok((source, sink))
 }
 
-// Kills a child and waits for its end. One that may not be killed isn't waited for.
-fn end(child: &mut Child) {
+/// Kills a child and waits for its end. One that may not be killed isn't waited for.
+pub fn end(child: &mut Child) {
     if child.kill().is_ok() {
         let _ = child.wait();
     } else {

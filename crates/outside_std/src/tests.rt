@@ -1,4 +1,5 @@
 //! What is trusted: the system below the adapters. Only loopback addresses are used.
+mod checks;
 mod children;
 mod links;
 mod pauses;

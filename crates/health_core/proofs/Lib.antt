@@ -1,0 +1,9 @@
+pub mod CountingLemmas
+pub mod ShrinkLemmas
+pub mod FileLemmas
+pub mod OneLemmas
+pub mod WordLemmas
+pub mod CommandLemmas
+pub mod SoundLemmas
+pub mod NumberLemmas
+pub mod WatchLemmas
