@@ -1,8 +1,0 @@
-pub mod OptionLemmas
-pub mod WordLemmas
-pub mod NumberLemmas
-pub mod NameLemmas
-pub mod CapLemmas
-pub mod OperandLemmas
-pub mod FoundLemmas
-pub mod OnlyLemmas
