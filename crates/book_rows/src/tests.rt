@@ -2,7 +2,6 @@
 mod events;
 mod files;
 mod full;
-mod gate;
 mod helpers;
 mod reloads;
 mod routes;
