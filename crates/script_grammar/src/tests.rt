@@ -1,5 +1,49 @@
 //! Lines of scripts: events, lines that are passed over, and lines that are in no production.
 use crate::{Event, ScriptLine, read_script_line};
+use route_values::{Caps, Family};
+use text_forms::Line;
+
+const EVENTS: [(&str, Event<'static>); 14] = [
+    ("spawn 0 0", Event::Spawn { h: 0, now: 0 }),
+    (
+        "spawn 15 18446744073709551615",
+        Event::Spawn {
+            h: 15,
+            now: 18_446_744_073_709_551_615,
+        },
+    ),
+    (
+        "line 0 1 # x",
+        Event::Line {
+            h: 0,
+            inc: 1,
+            line: Line::Text(b"# x"),
+        },
+    ),
+    ("take 0 1", Event::Take { h: 0, inc: 1 }),
+    ("deaf 1 2", Event::Deaf { h: 1, inc: 2 }),
+    ("gone 2 3", Event::Gone { h: 2, inc: 3 }),
+    ("peer 63", Event::Peer { n: 63 }),
+    ("down 0", Event::Down { n: 0 }),
+    (
+        "refresh 1 ipv4",
+        Event::Refresh {
+            n: 1,
+            family: Family::Ipv4,
+        },
+    ),
+    (
+        "refresh 0 ipv6",
+        Event::Refresh {
+            n: 0,
+            family: Family::Ipv6,
+        },
+    ),
+    ("cut 0", Event::Cut { n: 0 }),
+    ("drain 10", Event::Drain { n: 10 }),
+    ("control", Event::Control),
+    ("reload one.conf", Event::Reload { path: "one.conf" }),
+];
 
 const BAD: [&[u8]; 25] = [
     b"cut 64",
@@ -33,65 +77,59 @@ const PASSED_OVER: [&[u8]; 4] = [b"", b" \t", b"# x", b"#"];
 
 const BLANKS: [u8; 65_601] = [b' '; 65_601];
 
-// Which event a line says, its slot, and its second number, if it has one.
-fn told(line: &[u8]) -> (&'static str, usize, u64) {
-    match read_script_line(line) {
-        ScriptLine::PassedOver => ("passed over", 0, 0),
-        ScriptLine::Bad => ("bad", 0, 0),
-        ScriptLine::Says(event) => told_of(event),
-    }
-}
-
-fn told_of(event: Event<'_>) -> (&'static str, usize, u64) {
-    match event {
-        Event::Spawn { h, now } => ("spawn", h, now),
-        Event::Line { h, inc, line: _ } => ("line", h, inc),
-        Event::Take { h, inc } => ("take", h, inc),
-        Event::Deaf { h, inc } => ("deaf", h, inc),
-        Event::Gone { h, inc } => ("gone", h, inc),
-        Event::Peer { n } => ("peer", n, 0),
-        Event::Up { n, caps: _ } => ("up", n, 0),
-        Event::Down { n } => ("down", n, 0),
-        Event::Refresh { n, family: _ } => ("refresh", n, 0),
-        Event::Cut { n } => ("cut", n, 0),
-        Event::Drain { n } => ("drain", n, 0),
-        Event::Control => ("control", 0, 0),
-        Event::Reload { path: _ } => ("reload", 0, 0),
+#[test]
+fn a_line_says_its_event(rt: HostRuntime) {
+    for (line, event) in EVENTS {
+        assert_eq!(rt;
+            read_script_line(line.as_bytes()),
+            ScriptLine::Says(event),
+            "{line}"
+        );
     }
 }
 
 #[test]
-fn a_line_says_its_event(rt: HostRuntime) {
+fn an_up_line_says_capabilities_in_any_order(rt: HostRuntime) {
+    let both = Caps::none()
+        .with(Family::Ipv4, true)
+        .with(Family::Ipv6, false);
+    let up = |caps| ScriptLine::Says(Event::Up { n: 0, caps });
+    assert_eq!(rt; read_script_line(b"up 0 ipv4 ipv6 ipv4-path"), up(both));
+    assert_eq!(rt; read_script_line(b"up 0 ipv4-path ipv6 ipv4"), up(both));
     assert_eq!(rt;
-        told(b"spawn 15 18446744073709551615"),
-        ("spawn", 15, u64::MAX)
+        read_script_line(b"up 0 extended"),
+        up(Caps::none().with_extended())
     );
-    assert_eq!(rt; told(b"line 0 1 # x"), ("line", 0, 1));
-    assert_eq!(rt; told(b"take 0 1"), ("take", 0, 1));
-    assert_eq!(rt; told(b"deaf 1 2"), ("deaf", 1, 2));
-    assert_eq!(rt; told(b"gone 2 3"), ("gone", 2, 3));
-    assert_eq!(rt; told(b"peer 63"), ("peer", 63, 0));
-    assert_eq!(rt; told(b"up 1 ipv4-path extended ipv6 ipv4"), ("up", 1, 0));
-    assert_eq!(rt; told(b"down 0"), ("down", 0, 0));
-    assert_eq!(rt; told(b"refresh 1 ipv6"), ("refresh", 1, 0));
-    assert_eq!(rt; told(b"cut 0"), ("cut", 0, 0));
-    assert_eq!(rt; told(b"drain 10"), ("drain", 10, 0));
-    assert_eq!(rt; told(b"control"), ("control", 0, 0));
-    assert_eq!(rt; told(b"reload one.conf"), ("reload", 0, 0));
 }
 
 #[test]
 fn a_line_in_no_production_is_bad(rt: HostRuntime) {
     for (n, line) in BAD.iter().enumerate() {
-        assert_eq!(rt; told(line).0, "bad", "{n}");
+        assert_eq!(rt; read_script_line(line), ScriptLine::Bad, "{n}");
     }
 }
 
 #[test]
 fn blank_lines_and_remarks_are_passed_over_up_to_65600_bytes(rt: HostRuntime) {
     for (n, line) in PASSED_OVER.iter().enumerate() {
-        assert_eq!(rt; told(line).0, "passed over", "{n}");
+        assert_eq!(rt; read_script_line(line), ScriptLine::PassedOver, "{n}");
     }
-    assert_eq!(rt; told(&BLANKS[1..]).0, "passed over");
-    assert_eq!(rt; told(&BLANKS).0, "bad");
+    assert_eq!(rt; read_script_line(&BLANKS[1..]), ScriptLine::PassedOver);
+    assert_eq!(rt; read_script_line(&BLANKS), ScriptLine::Bad);
+}
+
+#[test]
+fn the_text_of_a_helper_has_65535_bytes_at_most(rt: HostRuntime) {
+    let mut line = [b'x'; 65_545];
+    line[..9].copy_from_slice(b"line 0 1 ");
+    assert_eq!(rt;
+        read_script_line(&line[..65_544]),
+        said(Line::Text(&line[9..65_544]))
+    );
+    assert_eq!(rt; read_script_line(&line), said(Line::TooLong));
+}
+
+// What a line of helper 0's first incarnation says.
+fn said(line: Line<'_>) -> ScriptLine<'_> {
+    ScriptLine::Says(Event::Line { h: 0, inc: 1, line })
 }

@@ -1,0 +1,6 @@
+use Rattle.std.proofs.Common.{◌≤◌, sym, subst}
+use Rattle.peer_book.proofs.TestLemmas.{room_fits}
+use Rattle.peer_book.proofs.tests.Peer.cut.Goals as goal
+
+pub cut-requires-clause-room : goal.cut-requires-clause-room
+cut-requires-clause-room c = λ caps up. room_fits caps _ c.args.self.now.out.roomy
