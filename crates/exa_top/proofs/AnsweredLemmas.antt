@@ -9,7 +9,7 @@ use Rattle.update_grammar.specs.Laws.{EndIsSpelled}
 use Rattle.exa_top.specs.declared.status.Status.{Status}
 use Rattle.exa_top.specs.declared.status.Status.TheVariants as status
 use Rattle.exa_top.specs.declared.words.TextCommand.{TextCommand}
-use Rattle.exa_top.specs.declared.words.TextCommand.TheVariants.{Encode, Check, Parse, Help, Version}
+use Rattle.exa_top.specs.declared.words.TextCommand.TheVariants.{Encode, Check, Parse, Decode, Help, Version}
 use Rattle.exa_top.specs.Encoding.{IsEncoding, marker, last_text}
 use Rattle.exa_top.specs.Parsing.{IsParsing}
 use Rattle.exa_top.specs.Top.{input_limit, IsOutput, ReadToEnd, ReadsWhole, ReadPart, ReadNothing}
@@ -26,7 +26,7 @@ pub read_none : (source : SourceSeen) → ReadNothing source source []
 read_none source = record { same = refl; none = refl }
 
 -- fewer bytes than a limit don't reach it
-few_given : (limit : ℕ) (given given' : Option (List ℕ)) (bytes : List ℕ) → Grows given given' bytes
+pub few_given : (limit : ℕ) (given given' : Option (List ℕ)) (bytes : List ℕ) → Grows given given' bytes
     → length bytes < limit → GaveFrom limit given given' → ⊥
 few_given limit None now bytes grows few from = from
 few_given limit (Some was) None bytes grows few from = from
@@ -50,6 +50,8 @@ whole_is_few content (Encode side) source source' bytes whole = few_given input_
 whole_is_few content (Check path) source source' bytes whole = untouched_is_few source source' bytes whole.0
 whole_is_few content Parse source source' bytes whole = few_given input_limit source.given source'.given bytes
     whole.given whole.short
+whole_is_few content (Decode caps) source source' bytes whole = few_given input_limit source.given source'.given bytes
+    whole.given whole.short
 whole_is_few content Help source source' bytes whole = untouched_is_few source source' bytes whole
 whole_is_few content Version source source' bytes whole = untouched_is_few source source' bytes whole
 
@@ -59,6 +61,7 @@ pub whole_is_configured : (content : Option (List ℕ → List ℕ)) (command : 
 whole_is_configured content (Encode side) source source' bytes whole = tt
 whole_is_configured content (Check path) source source' bytes whole = whole.1
 whole_is_configured content Parse source source' bytes whole = tt
+whole_is_configured content (Decode caps) source source' bytes whole = tt
 whole_is_configured content Help source source' bytes whole = tt
 whole_is_configured content Version source source' bytes whole = tt
 

@@ -7,7 +7,7 @@ use Rattle.exa_top.specs.declared.status.Status.{Status}
 use Rattle.exa_top.specs.declared.status.Status.TheVariants as status
 use Rattle.exa_top.specs.declared.words.TextCommand.{TextCommand}
 use Rattle.exa_top.specs.Configured.{IsFaultAt, IsUnread}
-use Rattle.exa_top.specs.declared.words.TextCommand.TheVariants.{Encode, Check, Parse, Help, Version}
+use Rattle.exa_top.specs.declared.words.TextCommand.TheVariants.{Encode, Check, Parse, Decode, Help, Version}
 use Rattle.exa_top.specs.Top.{Answered, EndsAtOnce, IsOutput, IsRefusedFor, NamesFile, ReadsPart}
 use Rattle.exa_top.proofs.AnsweredLemmas.{nothing_written, read_none, untouched_is_few}
 
@@ -87,6 +87,7 @@ pub refused_names : (content : Option (List ℕ → List ℕ)) (command : TextCo
 refused_names content (Encode side) fault refused = refused
 refused_names content (Check path) fault refused = tt
 refused_names content Parse fault refused = refused
+refused_names content (Decode caps) fault refused = refused
 refused_names content Help fault refused = refused
 refused_names content Version fault refused = refused
 

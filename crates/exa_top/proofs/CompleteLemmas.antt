@@ -10,7 +10,7 @@ use Rattle.outside.specs.Told.{AreLeftFrom, CountsOne, Rose}
 use Rattle.exa_top.specs.declared.status.Status.{Status}
 use Rattle.exa_top.specs.declared.status.Status.TheVariants as status
 use Rattle.exa_top.specs.declared.words.TextCommand.{TextCommand}
-use Rattle.exa_top.specs.declared.words.TextCommand.TheVariants.{Encode, Check, Parse, Help, Version}
+use Rattle.exa_top.specs.declared.words.TextCommand.TheVariants.{Encode, Check, Parse, Decode, Help, Version}
 use Rattle.exa_top.specs.Configured.{AreTextSlots, IsConfigAt, IsFaultAt}
 use Rattle.exa_top.specs.Top.{input_limit, Answered, HasConfig, HasFault, IsConfigured, IsLeftShort, IsRefusedFor}
 use Rattle.exa_top.specs.Top.{IsToldConfig, IsToldFault, Ran, ReadsInput}
@@ -40,6 +40,7 @@ not_refused law content (Encode side) fault refused good = refused
 not_refused law content (Check path) fault refused good =
     config_apart law content path.now refused.0 fault refused.1 refused.2 good
 not_refused law content Parse fault refused good = refused
+not_refused law content (Decode caps) fault refused good = refused
 not_refused law content Help fault refused good = refused
 not_refused law content Version fault refused good = refused
 
@@ -58,6 +59,7 @@ not_configured law content (Encode side) fault good told = told
 not_configured law content (Check path) fault good told =
     fault_apart law content path.now good.0 good.2 fault good.1 good.3 told
 not_configured law content Parse fault good told = told
+not_configured law content (Decode caps) fault good told = told
 not_configured law content Help fault good told = told
 not_configured law content Version fault good told = told
 
@@ -76,6 +78,7 @@ refused_once law content (Encode side) fault other refused told = absurd told
 refused_once law content (Check path) fault other refused told =
     fault_once law content path.now refused.0 fault other refused.1 refused.2 told
 refused_once law content Parse fault other refused told = absurd told
+refused_once law content (Decode caps) fault other refused told = absurd told
 refused_once law content Help fault other refused told = absurd told
 refused_once law content Version fault other refused told = absurd told
 
@@ -85,6 +88,7 @@ fault_reads : (content : Option (List ℕ → List ℕ)) (command : TextCommand)
 fault_reads content (Encode side) fault told reads = told
 fault_reads content (Check path) fault told reads = reads
 fault_reads content Parse fault told reads = told
+fault_reads content (Decode caps) fault told reads = told
 fault_reads content Help fault told reads = told
 fault_reads content Version fault told reads = told
 

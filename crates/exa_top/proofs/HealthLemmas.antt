@@ -1,11 +1,9 @@
 -- How the health check of a file ends.
-use Rattle.std.proofs.Common.{ℕ, ◌≡◌, ◌≤◌, ◌⊎◌, List, refl, sym, ap, subst, inl, inr, arith}
+use Rattle.std.proofs.Common.{ℕ, ◌≡◌, ◌⊎◌, List, refl, sym, ap, subst, inl, inr, arith}
 use Rattle.std.specs.declared.option.Option.{Option}
 use Rattle.std.specs.declared.option.Option.TheVariants.{Some, None}
 use Rattle.config_model.specs.declared.fault.ConfigFault.{ConfigFault}
-use Rattle.config_model.specs.declared.fault.ConfigKind.TheVariants as kind
-use Rattle.outside.specs.declared.reading.Unread.{Unread}
-use Rattle.outside.specs.declared.reading.Unread.TheVariants as unread
+use Rattle.config_reader.specs.Files.{too_long}
 use Rattle.outside.specs.Opening.{IsContent, IsLonger}
 use Rattle.outside.specs.Probing.{Checked}
 use Rattle.outside.specs.Seen.{SinkSeen}
@@ -14,23 +12,30 @@ use Rattle.health_core.specs.declared.health.Health.{Health}
 use Rattle.health_core.specs.Files.{FilesDoOne, FilesFaultOnce, HasFirstFault, SaysHealth}
 use Rattle.exa_top.specs.declared.status.Status.{Status}
 use Rattle.exa_top.specs.declared.status.Status.TheVariants as status
-use Rattle.exa_top.specs.Configured.{status_unread}
+use Rattle.exa_top.specs.Files.{IsLost, max_file}
 use Rattle.exa_top.specs.Health.{HealthEnds, IsHealthAt, IsHealthFaultAt, IsHealthUnread, IsHealthcheck}
 use Rattle.exa_top.specs.Health.{IsToldHealth, IsToldHealthFault, WatchEnds}
-use Rattle.exa_top.proofs.ConfiguredLemmas.{more_than}
+use Rattle.exa_top.proofs.FileLemmas.{more_than}
 
 -- a file that is too long is refused for that
-long_at : (content : Option (List ℕ → List ℕ)) (path : List ℕ) → IsLonger content path 1048576
-    → IsHealthFaultAt content path (record { line = 0; column = 0; kind = kind.Long })
+long_at : (content : Option (List ℕ → List ℕ)) (path : List ℕ) → IsLonger content path max_file
+    → IsHealthFaultAt content path too_long
 long_at None path longer =
-    let some = more_than 1048576 in record { bytes = some.0; are = tt; first = inl (some.1, refl) }
+    let some = more_than max_file in record { bytes = some.0; are = tt; first = inl (some.1, refl) }
 long_at (Some content) path longer = record { bytes = content path; are = refl; first = inl (longer, refl) }
 
-pub unread_is : (content : Option (List ℕ → List ℕ)) (path : List ℕ) (why : Unread)
-    → (why ≡ unread.Long → IsLonger content path 1048576) → IsHealthUnread content path (status_unread why)
-unread_is content path unread.Memory long = tt
-unread_is content path unread.Fault long = tt
-unread_is content path unread.Long long = long_at content path (long refl)
+-- a file whose bytes aren't had says no health check
+pub lost_unread : (content : Option (List ℕ → List ℕ)) (path : List ℕ) (ends : Status) → IsLost content path ends
+    → IsHealthUnread content path ends
+lost_unread content path status.ConfigRead lost = tt
+lost_unread content path status.NoMemory lost = tt
+lost_unread content path (status.ConfigRefused fault) lost =
+    subst (λ (first : ConfigFault). IsHealthFaultAt content path first) (sym lost.1) (long_at content path lost.0)
+lost_unread content path status.Ok lost = absurd lost
+lost_unread content path status.Usage lost = absurd lost
+lost_unread content path status.ReadFault lost = absurd lost
+lost_unread content path status.WriteFault lost = absurd lost
+lost_unread content path status.InputLong lost = absurd lost
 
 -- a watch of a file that says a health check
 pub ends_watched : (content : Option (List ℕ → List ℕ)) (path : List ℕ) (health : Health)

@@ -6,10 +6,13 @@ pub mod SlotLemmas
 pub mod TookLemmas
 pub mod AnsweredLemmas
 pub mod OutputLemmas
+pub mod CapLemmas
 pub mod WordLemmas
 pub mod ZippedLemmas
 pub mod ParsedLemmas
 pub mod CheckedLemmas
+pub mod DecodedLemmas
 pub mod CompleteLemmas
+pub mod FileLemmas
 pub mod ConfiguredLemmas
 pub mod HealthLemmas

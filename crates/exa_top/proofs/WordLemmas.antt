@@ -1,5 +1,10 @@
--- The words of `encode`.
-use Rattle.std.proofs.Common.{ℕ, ◌≡◌, codes, List, [], ◌∷◌, length, arith}
+-- The words of commands.
+use Rattle.std.proofs.Common.{ℕ, ◌≡◌, ap, codes, get_or, List, [], ◌∷◌, length, refl, subst, sym, arith}
+use Rattle.route_values.specs.Caps.{Caps}
+use Rattle.exa_top.specs.CapWords.{AreCaps}
+use Rattle.exa_top.specs.Words.{IsCommand}
+use Rattle.exa_top.specs.declared.words.TextCommand.{TextCommand}
+use Rattle.exa_top.specs.declared.words.TextCommand.TheVariants.{Encode, Check, Parse, Decode, Help, Version}
 
 pub local_as_is : (a b c a' b' c' : List ℕ) → codes "encode" ∷ a ∷ b ∷ c ∷ [] ≡ codes "encode" ∷ a' ∷ b' ∷ c' ∷ []
     → a ≡ a'
@@ -17,3 +22,31 @@ pub three_words : {A : Type 0} (words second third fourth : List A) (a b c : A) 
     → second ≡ b ∷ third → third ≡ c ∷ fourth → length fourth ≡ 0 → words ≡ a ∷ b ∷ c ∷ []
 three_words words second third [] a b c first then last none = cc
 three_words words second third (d ∷ more) a b c first then last none = absurd (omega (arith, none))
+
+-- words that are the same begin with the same letter
+first_letter : (words others : List (List ℕ)) → words ≡ others → get_or (get_or words 0 []) 0 0
+    ≡ get_or (get_or others 0 []) 0 0
+first_letter words others same = ap (λ all. get_or (get_or all 0 []) 0 0) same
+
+behind_first : (one other : List ℕ) (words others : List (List ℕ)) → one ∷ words ≡ other ∷ others → words ≡ others
+behind_first one other words others same = cc
+
+pub decode_found : (words : List (List ℕ)) (caps : Caps) → AreCaps words caps
+    → IsCommand (codes "decode" ∷ words) (Decode caps)
+decode_found words caps are = (words, refl, are)
+
+-- words behind `decode` that spell no capabilities spell no command
+pub decode_none : (words : List (List ℕ)) → ((caps : Caps) → AreCaps words caps → ⊥) → (spelled : TextCommand)
+    → IsCommand (codes "decode" ∷ words) spelled → ⊥
+decode_none words none (Encode side) is =
+    let letter : 100 ≡ 101 = first_letter _ _ is.words_are in absurd (omega (arith, letter))
+decode_none words none (Check path) is =
+    let letter : 100 ≡ 99 = first_letter _ _ is in absurd (omega (arith, letter))
+decode_none words none Parse is =
+    let letter : 100 ≡ 112 = first_letter _ _ is in absurd (omega (arith, letter))
+decode_none words none (Decode caps) is =
+    none caps (subst (λ (names : List (List ℕ)). AreCaps names caps) (sym (behind_first _ _ words is.0 is.1)) is.2)
+decode_none words none Help is =
+    let letter : 100 ≡ 45 = first_letter _ _ is in absurd (omega (arith, letter))
+decode_none words none Version is =
+    let letter : 100 ≡ 45 = first_letter _ _ is in absurd (omega (arith, letter))

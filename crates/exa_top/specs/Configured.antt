@@ -1,13 +1,11 @@
 -- The configuration that is read from a file by its path.
 use Rattle.std.specs.Prelude.{ℕ, ◌≡◌, ⊤, List}
 use Rattle.std.specs.declared.option.Option.{Option}
-use Rattle.outside.specs.declared.reading.Unread.{Unread}
-use Rattle.outside.specs.declared.reading.Unread.TheVariants as unread
 use Rattle.outside.specs.Opening.{IsContent}
 use Rattle.config_model.specs.declared.fault.ConfigFault.{ConfigFault}
 use Rattle.config_model.specs.declared.slots.Slots.{Slots}
 use Rattle.config_model.specs.Sections.{Sections}
-use Rattle.config_reader.specs.Files.{Configures, IsFirstFault, too_long}
+use Rattle.config_reader.specs.Files.{Configures, IsFirstFault}
 use Rattle.exa_top.specs.declared.status.Status.{Status}
 use Rattle.exa_top.specs.declared.status.Status.TheVariants as status
 
@@ -35,9 +33,3 @@ IsUnread content path slots status.ConfigRead = ⊤
 IsUnread content path slots (status.ConfigRefused fault) = IsFaultAt content path slots fault
 IsUnread content path slots status.NoMemory = ⊤
 IsUnread content path slots _ = ⊥
-
--- the status of a file that wasn't read whole
-abbrev pub status_unread : Unread → Status
-status_unread unread.Memory = status.NoMemory
-status_unread unread.Fault = status.ConfigRead
-status_unread unread.Long = status.ConfigRefused too_long

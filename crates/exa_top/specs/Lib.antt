@@ -3,7 +3,10 @@ pub mod Answers
 pub mod Encoding
 pub mod Parsing
 pub mod Configured
+pub mod Files
+pub mod CapWords
 pub mod Words
+pub mod Decoded
 pub mod Top
 pub mod Slots
 pub mod Status

@@ -13,12 +13,14 @@ use Rattle.outside.specs.Told.{Grows, Shrinks, AreLeft, AreLeftFrom, CountsOne}
 use Rattle.exa_top.specs.declared.status.Status.{Status}
 use Rattle.exa_top.specs.declared.status.Status.TheVariants as status
 use Rattle.exa_top.specs.declared.words.TextCommand.{TextCommand}
-use Rattle.exa_top.specs.declared.words.TextCommand.TheVariants.{Encode, Check, Parse, Help, Version}
+use Rattle.exa_top.specs.declared.words.TextCommand.TheVariants.{Encode, Check, Parse, Decode, Help, Version}
 use Rattle.exa_top.specs.Answers.{reply_text}
 use Rattle.exa_top.specs.Configured.{AreTextSlots, IsConfigAt, IsFaultAt}
 use Rattle.exa_top.specs.Encoding.{IsEncoding}
 use Rattle.exa_top.specs.Parsing.{IsParsing}
 use Rattle.exa_top.specs.Words.{IsCommand}
+use Rattle.message_decoder.specs.Decoding.{IsDecoding}
+use Rattle.message_decoder.specs.Streams.{AreEnded}
 
 -- how many bytes of input are too many
 abbrev pub input_limit : ℕ
@@ -41,18 +43,22 @@ help_text =
     ++ codes "           reads a configuration file, writes ok or says what its first fault is\n"
     ++ codes "       exabgpd parse\n"
     ++ codes "           reads command lines, writes for each whether it reads or where its first fault is\n"
+    ++ codes "       exabgpd decode CAP ..\n"
+    ++ codes "           reads UPDATE messages in hexadecimal, writes command lines that say the same\n"
     ++ codes "       exabgpd healthcheck FILE\n"
     ++ codes "           as a helper, announces prefixes while a check program succeeds\n"
     ++ codes "       exabgpd --help\n" ++ codes "           writes this text\n"
     ++ codes "       exabgpd --version\n" ++ codes "           writes the name and the version\n"
 
 -- The output that belongs to a command and what it read: what may be written while that is read, and what only after
--- its end. Replies to lines come early, and the messages late, and so does the line of `check`.
+-- its end. Replies to lines come early, and the messages late, and so does the line of `check`. What `decode` writes
+-- comes as early as the lines that it belongs to.
 abbrev pub IsOutput : TextCommand → List ℕ → List ℕ → List ℕ → Type 0
 IsOutput (Encode side) input early late =
     (whole : IsEncoding side input (early ++ late)) × (early ≡ flat_map reply_text whole.entries)
 IsOutput (Check path) input early late = (early ≡ []) × (late ≡ checked_text)
 IsOutput Parse input early late = IsParsing input early × (late ≡ [])
+IsOutput (Decode caps) input early late = IsDecoding caps input early × (late ≡ [])
 IsOutput Help input early late = (early ≡ help_text) × (late ≡ [])
 IsOutput Version input early late = (early ≡ version_text) × (late ≡ [])
 
@@ -99,6 +105,7 @@ NamesFile _ = ⊥
 abbrev pub ReadsInput : TextCommand → Type 0
 ReadsInput (Encode side) = ⊤
 ReadsInput Parse = ⊤
+ReadsInput (Decode caps) = ⊤
 ReadsInput _ = ⊥
 
 -- A source was read to its end, which came before the limit. Where it told what it had left, this was all of it.
@@ -115,25 +122,37 @@ pub record ReadPart (source source' : SourceSeen) (bytes : List ℕ) : Type 0 wh
   pub left : Shrinks source.left source'.left bytes
   pub short : length bytes ≤ input_limit
 
+-- A source gave some bytes, no more than the limit, and these are the front of them. They end with a line feed, unless
+-- the source has met its end and they are all.
+pub record ReadFront (source source' : SourceSeen) (front : List ℕ) : Type 0 where
+  pub bytes : List ℕ
+  pub behind : List ℕ
+  pub bytes_are : bytes ≡ front ++ behind
+  pub closed : AreEnded front ⊎ ((source'.ended ≡ true) × (behind ≡ []))
+  pub read : ReadPart source source' bytes
+
 -- a source was left as it was
 pub record ReadNothing (source source' : SourceSeen) (bytes : List ℕ) : Type 0 where
   pub same : source' ≡ source
   pub none : bytes ≡ []
 
--- what a command reads that ends well: `encode` and `parse` their input to the end, `check` its file, others nothing
+-- what a command reads that ends well: `check` its file, `--help` and `--version` nothing, others all of their input
 abbrev pub ReadsWhole : Option (List ℕ → List ℕ) → TextCommand → SourceSeen → SourceSeen → List ℕ → Type 0
 ReadsWhole content (Encode side) source source' bytes = ReadToEnd source source' bytes
 ReadsWhole content (Check path) source source' bytes =
     ReadNothing source source' bytes × IsConfigured content (Check path)
 ReadsWhole content Parse source source' bytes = ReadToEnd source source' bytes
+ReadsWhole content (Decode caps) source source' bytes = ReadToEnd source source' bytes
 ReadsWhole content Help source source' bytes = ReadNothing source source' bytes
 ReadsWhole content Version source source' bytes = ReadNothing source source' bytes
 
--- what a command may have read of its input that ends in another way
+-- What a command may have read of its input that ends in another way. `decode` may have read more than what its output
+-- belongs to: the last line isn't answered before its end is known.
 abbrev pub ReadsPart : TextCommand → SourceSeen → SourceSeen → List ℕ → Type 0
 ReadsPart (Encode side) source source' bytes = ReadPart source source' bytes
 ReadsPart (Check path) source source' bytes = ReadNothing source source' bytes
 ReadsPart Parse source source' bytes = ReadPart source source' bytes
+ReadsPart (Decode caps) source source' bytes = ReadFront source source' bytes
 ReadsPart Help source source' bytes = ReadNothing source source' bytes
 ReadsPart Version source source' bytes = ReadNothing source source' bytes
 

@@ -2,16 +2,14 @@
 ghost use Rattle.std.specs.Prelude.{◌≡◌, IfOk, IfErr, IsErrOf};
 ghost use Rattle.outside.specs.Lent.{LendsNone};
 ghost use Rattle.outside.specs.Told.{CountsOne};
-ghost use Rattle.exa_top.specs.Configured.{IsConfigAt, IsUnread, status_unread};
+ghost use Rattle.exa_top.specs.Configured.{IsConfigAt, IsUnread};
 
+use crate::files::{bytes_at, status_wrong};
 use crate::status::Status;
-use config_model::{Config, ConfigFault, ConfigKind, Slots};
-use config_reader::{ConfigError, read_config};
-use outside::{Files, Unread, read_file};
+use config_model::{Config, Slots};
+use config_reader::read_config;
+use outside::Files;
 use std::alloc::Global;
-
-// How many bytes a configuration has at most.
-const MAX_CONFIG: usize = 1_048_576;
 
 /// The configuration of the file at a path, for so many slots.
 ///
@@ -34,28 +32,9 @@ pub fn configured<F: Files>(
     ensures same { ¬ IsErrOf result Status.ConfigRead
         → F.faults files.new ≡ F.faults files.old }
 {
-    let bytes = match read_file(alloc, files, path, MAX_CONFIG) {
-        Ok(bytes) => bytes,
-        Err(unread) => return Err(status_of(unread)),
-    };
+    let bytes = bytes_at(alloc, files, path)?;
     match read_config(alloc, &bytes, slots) {
         Ok(config) => Ok(config),
-        Err(ConfigError::Refused(fault)) => Err(Status::ConfigRefused(fault)),
-        Err(ConfigError::NoMemory) => Err(Status::NoMemory),
-    }
-}
-
-/// How a command ends whose file wasn't read whole.
-pub fn status_of(unread: Unread) -> Status
-    ensures { result ≡ status_unread unread }
-{
-    match unread {
-        Unread::Memory => Status::NoMemory,
-        Unread::Fault => Status::ConfigRead,
-        Unread::Long => Status::ConfigRefused(ConfigFault {
-            line: 0,
-            column: 0,
-            kind: ConfigKind::Long,
-        }),
+        Err(error) => Err(status_wrong(error)),
     }
 }

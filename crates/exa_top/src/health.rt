@@ -5,20 +5,15 @@ ghost use Rattle.health_core.specs.declared.health.Health.{Health as Said};
 ghost use Rattle.outside.specs.Lent.{LendsNone};
 ghost use Rattle.outside.specs.Seen.{sink_seen};
 ghost use Rattle.outside.specs.Told.{CountsOne, Rose};
-ghost use Rattle.exa_top.specs.Configured.{status_unread};
 ghost use Rattle.exa_top.specs.Health.{HealthEnds, IsHealthAt, IsHealthUnread, IsHealthcheck};
 ghost use Rattle.exa_top.specs.Health.{IsToldHealth, IsToldHealthFault, WatchEnds};
 
 use crate::command::is;
-use crate::configured::status_of;
+use crate::files::{bytes_at, status_wrong};
 use crate::status::Status;
-use config_reader::ConfigError;
 use health_core::{Health, Unwatched, health_files_say_one, read_health, watch};
-use outside::{Files, Pause, Probe, Sink, read_file};
+use outside::{Files, Pause, Probe, Sink};
 use std::alloc::Global;
-
-// How many bytes a file has at most.
-const MAX_HEALTH: usize = 1_048_576;
 
 /// Runs the health check that the words spell: `healthcheck FILE`.
 ///
@@ -135,14 +130,10 @@ fn health_at<F: Files>(alloc: Global, files: &mut F, path: &str) -> Result<Healt
     ensures same { ¬ IsErrOf result Status.ConfigRead
         → F.faults files.new ≡ F.faults files.old }
 {
-    let bytes = match read_file(alloc, files, path, MAX_HEALTH) {
-        Ok(bytes) => bytes,
-        Err(unread) => return Err(status_of(unread)),
-    };
+    let bytes = bytes_at(alloc, files, path)?;
     match read_health(alloc, &bytes) {
         Ok(health) => Ok(health),
-        Err(ConfigError::Refused(fault)) => Err(Status::ConfigRefused(fault)),
-        Err(ConfigError::NoMemory) => Err(Status::NoMemory),
+        Err(error) => Err(status_wrong(error)),
     }
 }
 

@@ -6,6 +6,7 @@ use std::alloc::Global;
 use std::test::Fail;
 
 mod checking;
+mod decoding;
 mod watching;
 
 const ROUTE: &str = "announce route 10.0.0.0/24 next-hop 192.0.2.1\n";

@@ -14,6 +14,7 @@ ghost use Rattle.outside.specs.Seen.{SourceSeen, source_seen, sink_seen};
 ghost use Rattle.outside.specs.Told.{CountsOne, Rose};
 
 use crate::configured::configured;
+use crate::decoding::decode;
 use crate::encoding::encode_all;
 use crate::parsing::parse_all;
 use crate::status::Status;
@@ -25,8 +26,8 @@ use route_values::Side;
 use std::alloc::Global;
 use update_grammar::written_is_spelled;
 
-// How many bytes of input are too many.
-const MAX_INPUT: usize = 1 << 40;
+/// How many bytes of input are too many.
+pub const MAX_INPUT: usize = 1 << 40;
 
 // How many processes and neighbours a text command reads a configuration for.
 const TEXT_SLOTS: Slots = Slots {
@@ -47,6 +48,8 @@ const HELP: &[u8] = b"usage: exabgpd encode LOCAL_AS PEER_AS LOCAL_IP\n\
 \x20          reads a configuration file, writes ok or says what its first fault is\n\
 \x20      exabgpd parse\n\
 \x20          reads command lines, writes for each whether it reads or where its first fault is\n\
+\x20      exabgpd decode CAP ..\n\
+\x20          reads UPDATE messages in hexadecimal, writes command lines that say the same\n\
 \x20      exabgpd healthcheck FILE\n\
 \x20          as a helper, announces prefixes while a check program succeeds\n\
 \x20      exabgpd --help\n\
@@ -63,10 +66,14 @@ const HELP: &[u8] = b"usage: exabgpd encode LOCAL_AS PEER_AS LOCAL_IP\n\
 /// writes the line `ok`, or ends with `ConfigRefused` and the file's first fault.
 /// `parse` reads its input to the end as command lines. It writes for each line, in order, one line: `ok`, its first
 /// fault as `error token PLACE`, `error many PLACE LIMIT` or `error long`, or `error memory`.
+/// `decode CAP ..` reads its input to the end as UPDATE messages in hexadecimal, one a line, of a session with these
+/// capabilities. It writes for each line, as it comes, the command lines that say the same, or `# refused`, the line's
+/// number and its first fault. Blank lines and replies are passed over, and counted.
 /// `--help` and `--version` write their texts. Any other words are `Usage`, and nothing is read or written.
 ///
 /// With another status than `Ok` the output is a front part of one that belongs to what was read. Messages come in it
-/// only where the input's end was met. What was opened is given back, whatever the status.
+/// only where the input's end was met, and a line that no line feed ends is told only there too. What was opened is
+/// given back, whatever the status.
 pub fn exabgp_text<F: Files, S: Source, K: Sink>(
     alloc: Global,
     words: &[&str],
@@ -176,6 +183,7 @@ fn run<F: Files, S: Source, K: Sink>(
         TextCommand::Encode(side) => encode(alloc, &side, input, output),
         TextCommand::Check(path) => check(alloc, path, files, output),
         TextCommand::Parse => parse(alloc, input, output),
+        TextCommand::Decode(caps) => decode(alloc, &caps, input, output),
         TextCommand::Help => write_text(output, HELP),
         TextCommand::Version => write_text(output, VERSION),
     }

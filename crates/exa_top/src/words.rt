@@ -4,8 +4,9 @@ ghost use Rattle.route_values.specs.declared.settings.Side.{Side as Ends};
 ghost use Rattle.exa_top.specs.Words.{IsCommand, IsEncode};
 ghost use Rattle.exa_top.specs.declared.words.TextCommand.{TextCommand as Spelled};
 
+use crate::caps::caps_of;
 use crate::command::is;
-use route_values::{Addr, Side};
+use route_values::{Addr, Caps, Side};
 use text_forms::{asn, ipv4};
 
 /// A text command.
@@ -17,6 +18,8 @@ pub enum TextCommand<'a> {
     Check(&'a str),
     /// `parse`
     Parse,
+    /// `decode CAP ..`: messages of a session with these capabilities.
+    Decode(Caps),
     /// `--help`
     Help,
     /// `--version`
@@ -35,6 +38,9 @@ pub fn text_command<'a>(words: &[&'a str]) -> Option<TextCommand<'a>>
     }
     if is(name.as_bytes(), b"check") {
         return check_of(operands);
+    }
+    if is(name.as_bytes(), b"decode") {
+        return decode_of(operands);
     }
     if !operands.is_empty() {
         return None;
@@ -74,6 +80,18 @@ fn check_of<'a>(operands: &[&'a str]) -> Option<TextCommand<'a>>
         return None;
     }
     Some(TextCommand::Check(path))
+}
+
+fn decode_of<'a>(operands: &[&'a str]) -> Option<TextCommand<'a>>
+    ensures found { IfSome result
+        (λ spelled. IsCommand (codes "decode" ∷ map (λ w. w.now) operands.now) spelled) }
+    ensures none { IfNone result ((spelled : Spelled)
+        → IsCommand (codes "decode" ∷ map (λ w. w.now) operands.now) spelled → ⊥) }
+{
+    match caps_of(operands) {
+        Some(caps) => Some(TextCommand::Decode(caps)),
+        None => None,
+    }
 }
 
 // `LOCAL_AS PEER_AS LOCAL_IP`

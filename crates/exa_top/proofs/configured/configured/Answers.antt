@@ -1,9 +1,8 @@
-use Rattle.std.proofs.Common.{Err, ap, sym, subst}
-use Rattle.exa_top.specs.Configured.{IsUnread}
-use Rattle.exa_top.proofs.ConfiguredLemmas.{unread_is}
+use Rattle.std.proofs.lemmas.Result.{err_from_is_err_and}
+use Rattle.exa_top.proofs.ConfiguredLemmas.{lost_unread}
 use Rattle.exa_top.proofs.configured.configured.Goals as goal
 
-pub returns-in-Err-clause-unread : goal.returns-in-Err-clause-unread
-returns-in-Err-clause-unread g c =
-    subst (IsUnread (g.F.Files.content c.args.files.now) c.args.path.now c.args.slots) (sym c.status_of.ensures)
-    (unread_is _ _ _ c.in-Err.unread (λ is. c.in-Err.ensures.long (ap Err is)))
+pub returns-in_err-bytes-clause-unread : goal.returns-in_err-bytes-clause-unread
+returns-in_err-bytes-clause-unread g c =
+    let e = err_from_is_err_and c.from_residual.result c.from_residual.ensures.1 in
+    rw (e.1, e.2) (lost_unread _ _ _ _ c.in_err-bytes.ensures.lost)

@@ -1,9 +1,8 @@
-use Rattle.std.proofs.Common.{Err, ap, sym, subst}
-use Rattle.exa_top.specs.Health.{IsHealthUnread}
-use Rattle.exa_top.proofs.HealthLemmas.{unread_is}
+use Rattle.std.proofs.lemmas.Result.{err_from_is_err_and}
+use Rattle.exa_top.proofs.HealthLemmas.{lost_unread}
 use Rattle.exa_top.proofs.health.health_at.Goals as goal
 
-pub returns-in-Err-clause-unread : goal.returns-in-Err-clause-unread
-returns-in-Err-clause-unread g c =
-    subst (IsHealthUnread (g.F.Files.content c.args.files.now) c.args.path.now) (sym c.status_of.ensures)
-    (unread_is _ _ c.in-Err.unread (λ is. c.in-Err.ensures.long (ap Err is)))
+pub returns-in_err-bytes-clause-unread : goal.returns-in_err-bytes-clause-unread
+returns-in_err-bytes-clause-unread g c =
+    let e = err_from_is_err_and c.from_residual.result c.from_residual.ensures.1 in
+    rw (e.1, e.2) (lost_unread _ _ _ c.in_err-bytes.ensures.lost)

@@ -1,5 +1,5 @@
 use Rattle.std.proofs.Common.{refl}
-use Rattle.exa_top.specs.declared.words.TextCommand.TheVariants.{Encode, Parse, Help, Version}
+use Rattle.exa_top.specs.declared.words.TextCommand.TheVariants.{Encode, Parse, Decode, Help, Version}
 use Rattle.exa_top.proofs.AnsweredLemmas.{read_none, text_written}
 use Rattle.exa_top.proofs.CheckedLemmas.{ends_later}
 use Rattle.exa_top.proofs.top.run.Goals as goal
@@ -30,6 +30,18 @@ returns-in-Parse-clause-at_once g c at_once =
 pub returns-in-Parse-clause-config : goal.returns-in-Parse-clause-config
 returns-in-Parse-clause-config g c is =
     absurd ((c.parse.ensures (g.F.Files.content c.args.files.now)).unread is)
+
+pub returns-in-Decode-clause-answered : goal.returns-in-Decode-clause-answered
+returns-in-Decode-clause-answered g c = rw c.in-Decode.is (c.decode.ensures _)
+
+pub returns-in-Decode-clause-at_once : goal.returns-in-Decode-clause-at_once
+returns-in-Decode-clause-at_once g c at_once =
+    absurd (ends_later (g.F.Files.content c.args.files.now) (Decode c.in-Decode.caps) _ _ _ _ _ (c.decode.ensures _)
+    (λ names. names) at_once)
+
+pub returns-in-Decode-clause-config : goal.returns-in-Decode-clause-config
+returns-in-Decode-clause-config g c is =
+    absurd ((c.decode.ensures (g.F.Files.content c.args.files.now)).unread is)
 
 pub returns-in-Help-clause-answered : goal.returns-in-Help-clause-answered
 returns-in-Help-clause-answered g c =

@@ -1,0 +1,5 @@
+use Rattle.std.proofs.Common.{refl}
+use Rattle.book_core.proofs.carrying.is_at.Goals as goal
+
+pub returns : goal.returns
+returns c = refl

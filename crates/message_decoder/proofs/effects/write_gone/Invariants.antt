@@ -1,0 +1,13 @@
+use Rattle.std.proofs.Common.{take, [], ◌∷◌}
+use Rattle.std.specs.List.{flat_map}
+use Rattle.outside.specs.Seen.{sink_seen}
+use Rattle.update_grammar.specs.declared.effect.Effect.TheVariants.{Gone}
+use Rattle.message_decoder.specs.Decoding.{AreEffectLines}
+use Rattle.message_decoder.specs.Streams.{Wrote}
+use Rattle.message_decoder.proofs.effects.write_gone.Given as goal
+
+-- the lines of the keys so far were written
+abbrev pub invariant-keys : goal.invariant-keys
+invariant-keys g l =
+    Wrote (AreEffectLines (flat_map (λ key. Gone key ∷ []) (take l.key-index l.keys)))
+    (sink_seen g.K.Sink.taken g.K.Sink.faults l.fn.output) (sink_seen g.K.Sink.taken g.K.Sink.faults l.output)

@@ -1,0 +1,12 @@
+pub mod Slot
+pub mod Cutting
+pub mod Tables
+pub mod Stands
+pub mod Seen
+pub mod Statics
+pub mod Clearing
+pub mod Known
+pub mod Numbers
+pub mod Keeping
+pub mod Copying
+pub mod Nodes
