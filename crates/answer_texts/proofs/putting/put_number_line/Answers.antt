@@ -1,0 +1,8 @@
+use Rattle.answer_texts.proofs.TextLemmas.{then}
+use Rattle.answer_texts.proofs.putting.put_number_line.Goals as goal
+
+pub returns : goal.returns
+returns c =
+    (then c.in_ok-put.ensures.piece
+    (then c.in_ok-put_number.ensures.piece
+    c.in_ok-put-2.ensures.piece)).after_is

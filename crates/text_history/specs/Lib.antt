@@ -1,0 +1,5 @@
+pub mod Adding
+pub mod Configured
+pub mod Plays
+pub mod Encodes
+pub mod Laws
