@@ -1,5 +1,5 @@
 -- What the keeper's loop has left so far.
-use Rattle.std.proofs.Common.{ℕ, ◌≡◌, List, [], ◌∷◌, Option, refl, sym, subst, ◌∙◌}
+use Rattle.std.proofs.Common.{ℕ, ◌≡◌, List, [], Option, refl, subst, ◌∙◌}
 use Rattle.outside.specs.Lent.{LendsNone}
 use Rattle.config_model.specs.declared.slots.Slots.{Slots}
 use Rattle.book_history.specs.Entries.{Entry}
@@ -13,16 +13,16 @@ use Rattle.control_worker.proofs.RoundLemmas.{keeps_idle, keeps_none, keeps_relo
 
 module _ {A : Type 0} where
   -- rounds were made, and the files tell and lend as before
-  pub record Kept (content content' : Option (List ℕ → List ℕ)) (path : List ℕ) (slots : Slots)
+  pub record Kept (told told' : Option (List ℕ → List ℕ)) (path : List ℕ) (slots : Slots)
       (pass later : Known A Entry) (faults faults' : ℕ) (lent lent' : Option ℕ) : Type 0 where
-    pub keeps : Keeps content path slots pass faults [] faults' later
-    pub content : content' ≡ content
-    pub lent : LendsNone lent lent'
+    pub keeps : Keeps told path slots pass faults [] faults' later
+    pub content : told' ≡ told
+    pub back : LendsNone lent lent'
 
   pub kept_none : (content : Option (List ℕ → List ℕ)) (path : List ℕ) (slots : Slots) (pass : Known A Entry)
       (faults : ℕ) (lent : Option ℕ) → Kept content content path slots pass pass faults faults lent lent
   kept_none content path slots pass faults lent =
-      record { keeps = keeps_none content path slots pass faults; content = refl; lent = lent_same lent }
+      record { keeps = keeps_none content path slots pass faults; content = refl; back = lent_same lent }
 
   pub kept_idle : (law : A → List Entry → Entry → Type 0) (content content' : Option (List ℕ → List ℕ)) (path : List ℕ)
       (slots : Slots) (pass between later : Known A Entry) (faults faults' : ℕ) (lent lent' : Option ℕ)
@@ -30,7 +30,11 @@ module _ {A : Type 0} where
       → Enters law between (ControlAsked control.Nothing) later
       → Kept content content' path slots pass later faults faults' lent lent'
   kept_idle law content content' path slots pass between later faults faults' lent lent' kept entered =
-      record kept { keeps = keeps_idle content path slots law pass between later faults faults' kept.keeps entered }
+      record {
+        keeps = keeps_idle content path slots law pass between later faults faults' kept.keeps entered;
+        content = kept.content;
+        back = kept.back;
+      }
 
   pub kept_reload : (law : A → List Entry → Entry → Type 0) (content between_content content' : Option (List ℕ → List ℕ))
       (path : List ℕ) (slots : Slots) (pass between asked later : Known A Entry) (faults mid faults' : ℕ)
@@ -46,5 +50,5 @@ module _ {A : Type 0} where
             keeps_reload content path slots law pass between asked later faults mid faults' kept.keeps entered
             (subst (λ (told : Option (List ℕ → List ℕ)). Reloads told path slots asked mid faults' later) kept.content reloads);
         content = same ∙ kept.content;
-        lent = lent_on lent between_lent lent' kept.lent back;
+        back = lent_on lent between_lent lent' kept.back back;
       }

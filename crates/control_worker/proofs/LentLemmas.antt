@@ -1,5 +1,5 @@
 -- As many sources are out as before.
-use Rattle.std.proofs.Common.{ℕ, ◌≡◌, Option, Some, None, refl, ◌∙◌}
+use Rattle.std.proofs.Common.{ℕ, Option, Some, None, refl, ◌∙◌}
 use Rattle.outside.specs.Lent.{LendsNone}
 
 pub lent_same : (lent : Option ℕ) → LendsNone lent lent

@@ -1,6 +1,6 @@
 -- One round more of a keeper.
-use Rattle.std.proofs.Common.{ℕ, ◌≡◌, Bool, true, false, true≢false, List, [], ◌∷◌, ◌++◌, Option, refl, ap, sym, subst, ◌∙◌, append-nil, append_assoc}
-use Rattle.std.specs.List.{All, flat_map}
+use Rattle.std.proofs.Common.{ℕ, ◌≡◌, Bool, true, false, true≢false, Result, Ok, Err, List, [], ◌∷◌, ◌++◌, Option, refl, ap, sym, subst, ◌∙◌, append-nil}
+use Rattle.std.specs.List.{flat_map}
 use Rattle.std.proofs.lemmas.List.Concat.{flat_map-append}
 use Rattle.std.proofs.lemmas.List.Elements.{All-append, All-cons, All-nil}
 use Rattle.outside.specs.Told.{CountsOne}
@@ -34,17 +34,23 @@ entries_next rounds round =
     ∙ ap (λ (entries : List Entry). flat_map entries_of rounds ++ entries) (append-nil (entries_of round))
 
 -- whether a file wasn't read
-is_fault : NotRead → Bool
-is_fault not_read.ReadFault = true
-is_fault (not_read.Refused fault) = false
-is_fault not_read.NoMemory = false
+abbrev is_fault : {T : Type 0} → Result T NotRead → Bool
+is_fault (Err not_read.ReadFault) = true
+is_fault (Err (not_read.Refused fault)) = false
+is_fault (Err not_read.NoMemory) = false
+is_fault (Ok config) = false
+
+-- the answer that there is no configuration
+abbrev none_for : (T : Type 0) → NotRead → Result T NotRead
+none_for T why = Err why
 
 -- the count behind a refusal
-counted_as : (faults faults' : ℕ) (why : NotRead) → (why ≡ not_read.ReadFault → CountsOne faults faults')
-    → ((why ≡ not_read.ReadFault → ⊥) → faults' ≡ faults) → faults' ≡ counted_by faults (Refused why)
-counted_as faults faults' not_read.ReadFault one same = (one refl).0
-counted_as faults faults' (not_read.Refused fault) one same = same (λ is. true≢false (sym (ap is_fault is)))
-counted_as faults faults' not_read.NoMemory one same = same (λ is. true≢false (sym (ap is_fault is)))
+counted_as : (T : Type 0) (faults faults' : ℕ) (why : NotRead)
+    → (none_for T why ≡ none_for T not_read.ReadFault → CountsOne faults faults')
+    → ((none_for T why ≡ none_for T not_read.ReadFault → ⊥) → faults' ≡ faults) → faults' ≡ counted_by faults (Refused why)
+counted_as T faults faults' not_read.ReadFault one same = (one refl).0
+counted_as T faults faults' (not_read.Refused fault) one same = same (λ is. true≢false (sym (ap (is_fault {T = T}) is)))
+counted_as T faults faults' not_read.NoMemory one same = same (λ is. true≢false (sym (ap (is_fault {T = T}) is)))
 
 module _ {A : Type 0} (content : Option (List ℕ → List ℕ)) (path : List ℕ) (slots : Slots) where
   -- no round
@@ -120,15 +126,16 @@ module _ {A : Type 0} (content : Option (List ℕ → List ℕ)) (path : List �
       }
 
   -- why there is none was entered
-  pub reloads_refused : (law : A → List Entry → Entry → Type 0) (pass later : Known A Entry) (faults faults' : ℕ)
-      (why : NotRead) → Enters law pass (ReloadRefused why) later → IsNoneAt content path slots why
-      → (why ≡ not_read.ReadFault → CountsOne faults faults') → ((why ≡ not_read.ReadFault → ⊥) → faults' ≡ faults)
+  pub reloads_refused : (T : Type 0) (law : A → List Entry → Entry → Type 0) (pass later : Known A Entry)
+      (faults faults' : ℕ) (why : NotRead) → Enters law pass (ReloadRefused why) later
+      → IsNoneAt content path slots why → (none_for T why ≡ none_for T not_read.ReadFault → CountsOne faults faults')
+      → ((none_for T why ≡ none_for T not_read.ReadFault → ⊥) → faults' ≡ faults)
       → Reloads content path slots pass faults faults' later
-  reloads_refused law pass later faults faults' why entered none one same =
+  reloads_refused T law pass later faults faults' why entered none one same =
       record {
         round = Refused why;
         due = refl;
         makes = makes_one law pass later (ReloadRefused why) entered;
         filed = none;
-        counts = counted_as faults faults' why one same;
+        counts = counted_as T faults faults' why one same;
       }

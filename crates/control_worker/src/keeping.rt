@@ -46,8 +46,8 @@ pub fn keep<R: Wait, F: Files, P: Pause>(
     unreachable!()
 }
 
-// Enters the configuration of the file, or why there is none.
-fn reload<R: Wait, F: Files>(
+/// Enters the configuration of the file at a path, or why there is none.
+pub fn reload<R: Wait, F: Files>(
     rt: &R,
     alloc: Global,
     gate: &Gate<Book>,

@@ -9,5 +9,7 @@
 mod keeper;
 mod keeping;
 mod ringing;
+#[cfg(test)]
+mod tests;
 
 pub use keeper::{Keeper, KeeperParts};

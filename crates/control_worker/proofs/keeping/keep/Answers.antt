@@ -9,8 +9,8 @@ pub loop-preserved-in-Nothing : goal.loop-preserved-in-Nothing
 loop-preserved-in-Nothing g c =
     kept_idle _ _ _ _ _ _ _ _ _ _ _ _ c.loop.invariant c.in-Nothing.ensures.entered
 
-pub loop-preserved-in-ReloadDue : goal.loop-preserved-in-ReloadDue
-loop-preserved-in-ReloadDue g c =
+pub loop-preserved : goal.loop-preserved
+loop-preserved g c =
     kept_reload _ _ _ _ _ _ _ _ _ _ _ _ _ _ _ _ c.loop.invariant c.in-ReloadDue.ensures.entered
     c.reload.ensures.reloads c.reload.ensures.content c.reload.ensures.back
 

@@ -1,6 +1,3 @@
-use Rattle.std.proofs.Common.{◌≡◌, []}
-use Rattle.outside.specs.Lent.{LendsNone}
-use Rattle.control_worker.specs.Rounds.{Keeps}
 use Rattle.control_worker.proofs.KeptLemmas.{Kept}
 use Rattle.control_worker.proofs.keeping.keep.Given as goal
 
