@@ -36,19 +36,20 @@ module _ {A : Type 0} where
         back = kept.back;
       }
 
-  pub kept_reload : (law : A → List Entry → Entry → Type 0) (content between_content content' : Option (List ℕ → List ℕ))
-      (path : List ℕ) (slots : Slots) (pass between asked later : Known A Entry) (faults mid faults' : ℕ)
-      (lent between_lent lent' : Option ℕ)
-      → Kept content between_content path slots pass between faults mid lent between_lent
-      → Enters law between due_told asked → Reloads between_content path slots asked mid faults' later
-      → content' ≡ between_content → LendsNone between_lent lent'
+  pub kept_reload : (law : A → List Entry → Entry → Type 0)
+      (content mid_content content' : Option (List ℕ → List ℕ)) (path : List ℕ) (slots : Slots) (pass between asked later : Known A Entry) (faults mid faults' : ℕ)
+      (lent mid_lent lent' : Option ℕ)
+      → Kept content mid_content path slots pass between faults mid lent mid_lent
+      → Enters law between due_told asked → Reloads mid_content path slots asked mid faults' later
+      → content' ≡ mid_content → LendsNone mid_lent lent'
       → Kept content content' path slots pass later faults faults' lent lent'
-  kept_reload law content between_content content' path slots pass between asked later faults mid faults' lent between_lent
-      lent' kept entered reloads same back =
+  kept_reload law content mid_content content' path slots pass between asked later faults mid faults' lent
+      mid_lent lent' kept entered reloads same back =
       record {
         keeps =
             keeps_reload content path slots law pass between asked later faults mid faults' kept.keeps entered
-            (subst (λ (told : Option (List ℕ → List ℕ)). Reloads told path slots asked mid faults' later) kept.content reloads);
+            (subst (λ (told : Option (List ℕ → List ℕ)). Reloads told path slots asked mid faults' later) kept.content
+            reloads);
         content = same ∙ kept.content;
-        back = lent_on lent between_lent lent' kept.back back;
+        back = lent_on lent mid_lent lent' kept.back back;
       }

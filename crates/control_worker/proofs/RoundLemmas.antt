@@ -1,5 +1,6 @@
 -- One round more of a keeper.
-use Rattle.std.proofs.Common.{ℕ, ◌≡◌, Bool, true, false, true≢false, Result, Ok, Err, List, [], ◌∷◌, ◌++◌, Option, refl, ap, sym, subst, ◌∙◌, append-nil}
+use Rattle.std.proofs.Common.{ℕ, ◌≡◌, Bool, true, false, true≢false, Result, Ok, Err, List, [], ◌∷◌, ◌++◌, Option}
+use Rattle.std.proofs.Common.{refl, ap, sym, subst, ◌∙◌, append-nil}
 use Rattle.std.specs.List.{flat_map}
 use Rattle.std.proofs.lemmas.List.Concat.{flat_map-append}
 use Rattle.std.proofs.lemmas.List.Elements.{All-append, All-cons, All-nil}
@@ -47,7 +48,8 @@ none_for T why = Err why
 -- the count behind a refusal
 counted_as : (T : Type 0) (faults faults' : ℕ) (why : NotRead)
     → (none_for T why ≡ none_for T not_read.ReadFault → CountsOne faults faults')
-    → ((none_for T why ≡ none_for T not_read.ReadFault → ⊥) → faults' ≡ faults) → faults' ≡ counted_by faults (Refused why)
+    → ((none_for T why ≡ none_for T not_read.ReadFault → ⊥) → faults' ≡ faults)
+    → faults' ≡ counted_by faults (Refused why)
 counted_as T faults faults' not_read.ReadFault one same = (one refl).0
 counted_as T faults faults' (not_read.Refused fault) one same = same (λ is. true≢false (sym (ap (is_fault {T = T}) is)))
 counted_as T faults faults' not_read.NoMemory one same = same (λ is. true≢false (sym (ap (is_fault {T = T}) is)))
@@ -69,13 +71,15 @@ module _ {A : Type 0} (content : Option (List ℕ → List ℕ)) (path : List �
         makes =
             subst (λ (made : List Entry). Makes pass made later)
             (ap (λ (made : List Entry). made ++ entries_of round) (append-nil (flat_map entries_of kept.rounds))
-            ∙ (sym (entries_next kept.rounds round) ∙ sym (append-nil (flat_map entries_of (kept.rounds ++ round ∷ [])))))
+            ∙ (sym (entries_next kept.rounds round)
+            ∙ sym (append-nil (flat_map entries_of (kept.rounds ++ round ∷ [])))))
             (makes_more pass between later (flat_map entries_of kept.rounds ++ []) (entries_of round) kept.makes makes);
         filed =
             All-append (IsFiled content path slots) kept.rounds (round ∷ []) kept.filed
             (All-cons (IsFiled content path slots) round [] filed (All-nil (IsFiled content path slots)));
         counts =
-            counts ∙ (ap (λ (count : ℕ). counted_by count round) kept.counts ∙ sym (counted_next faults kept.rounds round));
+            counts
+            ∙ (ap (λ (count : ℕ). counted_by count round) kept.counts ∙ sym (counted_next faults kept.rounds round));
       }
 
   -- nothing was to be done
@@ -106,7 +110,8 @@ module _ {A : Type 0} (content : Option (List ℕ → List ℕ)) (path : List �
         rounds = kept.rounds;
         makes =
             makes_more pass between later (flat_map entries_of kept.rounds) (last ∷ [])
-            (subst (λ (made : List Entry). Makes pass made between) (append-nil (flat_map entries_of kept.rounds)) kept.makes)
+            (subst (λ (made : List Entry). Makes pass made between) (append-nil (flat_map entries_of kept.rounds))
+            kept.makes)
             (makes_one law between later last entered);
         filed = kept.filed;
         counts = kept.counts;

@@ -1,12 +1,12 @@
 -- A pass that makes entries.
-use Rattle.std.proofs.Common.{ℕ, ◌≡◌, List, [], ◌∷◌, ◌++◌, map, refl, ap, sym, subst, ◌∙◌, append_assoc, append-nil}
+use Rattle.std.proofs.Common.{ℕ, List, [], ◌∷◌, ◌++◌, refl, ap, sym, subst, ◌∙◌, append_assoc, append-nil}
 use Rattle.std.specs.Prelude.{Contains}
 use Rattle.std.proofs.lemmas.List.{map-append}
-use Rattle.book_gate.specs.Calls.{Enters, IsLater}
+use Rattle.book_gate.specs.Calls.{IsLater}
 use Rattle.book_gate.specs.Histories.{entries, entries_by, signed}
 use Rattle.book_gate.specs.Known.{Known}
 use Rattle.book_gate.specs.declared.view.Signed.{Signed}
-use Rattle.pass_entries.specs.Making.{Makes, MakesMore, MakesNone, MakesOne, own}
+use Rattle.pass_entries.specs.Making.{MakesMore, MakesNone, MakesOne, own}
 
 module _ {A E : Type 0} where
   -- a pass that is the same later is the same later still
@@ -29,11 +29,14 @@ module _ {A E : Type 0} where
         same = entered.rest;
         front = (
           entered.between ++ signed pass.name entry ∷ [],
-          sym (append_assoc pass.seen entered.between (signed pass.name entry ∷ [])) ∙ sym entered.seen
+          sym (append_assoc pass.seen entered.between (signed pass.name entry ∷ [])) ∙ sym entered.seen,
         );
         own =
-            ap (λ (name : List ℕ). entries (entries_by name later.seen)) (ap (λ (known : Known A E). known.name) entered.rest)
-            ∙ (ap entries entered.mine ∙ map-append (λ (x : Signed E). x.entry) (entries_by pass.name pass.seen) (signed pass.name entry ∷ []));
+            ap (λ (name : List ℕ). entries (entries_by name later.seen))
+            (ap (λ (known : Known A E). known.name) entered.rest)
+            ∙ (ap entries entered.mine
+            ∙ map-append (λ (made : Signed E). made.entry) (entries_by pass.name pass.seen)
+            (signed pass.name entry ∷ []));
         joined = entered.joined;
       }
 
@@ -44,10 +47,12 @@ module _ {A E : Type 0} where
         front = (
           one.front.0 ++ other.front.0,
           sym (append_assoc pass.seen one.front.0 other.front.0)
-          ∙ (ap (λ seen. seen ++ other.front.0) one.front.1 ∙ other.front.1)
+              ∙ (ap (λ seen. seen ++ other.front.0) one.front.1 ∙ other.front.1),
         );
         own = other.own ∙ (ap (λ made. made ++ second) one.own ∙ append_assoc (own pass) first second);
         joined = λ name is.
-            other.joined name (subst (λ (joined : List (List ℕ)). Contains joined name) (sym (ap (λ (known : Known A E). known.joined) one.same)) is)
+            other.joined name
+            (subst (λ (joined : List (List ℕ)). Contains joined name)
+            (sym (ap (λ (known : Known A E). known.joined) one.same)) is)
             ∙ one.joined name is;
       }
