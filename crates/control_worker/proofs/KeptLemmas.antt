@@ -37,8 +37,8 @@ module _ {A : Type 0} where
       }
 
   pub kept_reload : (law : A → List Entry → Entry → Type 0)
-      (content mid_content content' : Option (List ℕ → List ℕ)) (path : List ℕ) (slots : Slots) (pass between asked later : Known A Entry) (faults mid faults' : ℕ)
-      (lent mid_lent lent' : Option ℕ)
+      (content mid_content content' : Option (List ℕ → List ℕ)) (path : List ℕ) (slots : Slots)
+      (pass between asked later : Known A Entry) (faults mid faults' : ℕ) (lent mid_lent lent' : Option ℕ)
       → Kept content mid_content path slots pass between faults mid lent mid_lent
       → Enters law between due_told asked → Reloads mid_content path slots asked mid faults' later
       → content' ≡ mid_content → LendsNone mid_lent lent'
