@@ -13,7 +13,7 @@ use Rattle.helper_worker.specs.Lines.{EntersLines, EntersPiece}
 use Rattle.helper_worker.specs.Hearing.{Hears}
 use Rattle.helper_worker.proofs.RunLemmas.{lines_both, lines_none}
 
-grows_none : (given : Option (List ℕ)) → Grows given given []
+pub grows_none : (given : Option (List ℕ)) → Grows given given []
 grows_none None = tt
 grows_none (Some bytes) = sym (append-nil bytes)
 

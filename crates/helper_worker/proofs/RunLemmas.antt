@@ -20,7 +20,7 @@ use Rattle.helper_worker.specs.Lines.{EntersLines, IsLineOf, LineRun, ends_by, i
 run_none : (h inc : ℕ) → LineRun h inc [] false []
 run_none h inc = record { only = All-nil (IsLineOf h inc); taken_are = refl; late_is = refl }
 
-or_false : (test : Bool) → (test || false) ≡ test
+pub or_false : (test : Bool) → (test || false) ≡ test
 or_false true = refl
 or_false false = refl
 

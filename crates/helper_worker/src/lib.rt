@@ -7,6 +7,8 @@
 //! written.
 #![tactic(auto)]
 
+mod answering;
 mod hearing;
 mod line;
 mod piece;
+mod texts;
