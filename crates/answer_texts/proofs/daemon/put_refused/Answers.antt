@@ -8,7 +8,7 @@ returns c =
     let line : decimal c.from.result ≡ decimal c.args.fault.line = cc c.from.ensures in
     let column : decimal c.from-2.result ≡ decimal c.args.fault.column = cc c.from-2.ensures in
     let kind : c.as_bytes.result.now ≡ kind_word c.args.fault.kind =
-        cc (c.as_bytes.ensures.value, c.word.ensures)
+    cc (c.as_bytes.ensures.value, c.word.ensures)
     in
     (then c.in_ok-put.ensures.piece
     (then (put_as line c.in_ok-put_number.ensures.piece)

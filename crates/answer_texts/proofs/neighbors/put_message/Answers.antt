@@ -8,7 +8,7 @@ pub returns : goal.returns
 returns c =
     let place : c.place.result.now ≡ place_text c.args.last = cc c.place.ensures in
     let digits : c.as_bytes.result.now ≡ encode_upper c.args.bytes.now =
-        cc (c.as_bytes.ensures.value, c.in_ok-digits.ensures)
+    cc (c.as_bytes.ensures.value, c.in_ok-digits.ensures)
     in
     (then c.in_ok-put.ensures.piece
     (then c.in_ok-put_number.ensures.piece
