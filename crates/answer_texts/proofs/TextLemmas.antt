@@ -1,5 +1,5 @@
 -- Texts that are put behind each other.
-use Rattle.std.proofs.Common.{ℕ, ◌≡◌, List, [], ◌∷◌, ◌++◌, ap, sym, ◌∙◌, append_assoc, append-nil}
+use Rattle.std.proofs.Common.{ℕ, ◌≡◌, List, [], ◌∷◌, ◌++◌, ap, subst, sym, ◌∙◌, append_assoc, append-nil}
 use Rattle.book_history.specs.Entries.{Entry, History}
 use Rattle.answer_texts.specs.Shown.{all_of}
 use Rattle.answer_texts.specs.Texts.{IsPut}
@@ -18,3 +18,8 @@ all_follow text [] H = sym (append-nil (all_of text H))
 all_follow text (entry ∷ added) H =
     ap (λ (front : List ℕ). front ++ text entry) (all_follow text added H)
     ∙ append_assoc (all_of text H) (all_of text added) (text entry)
+
+-- a piece by what it is
+pub put_as : {text piece wanted after : List ℕ} → piece ≡ wanted → IsPut text piece after → IsPut text wanted after
+put_as {text = text} {after = after} is put =
+    subst (λ (named : List ℕ). IsPut text named after) is put

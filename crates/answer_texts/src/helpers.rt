@@ -8,15 +8,15 @@ use book_history::{Spawn, Verdict, Why};
 use route_grammar::LineFault;
 
 /// Puts whether a helper may be started.
-pub fn put_spawn(text: &mut Vec<u8>, given: &Spawn) -> Result<(), NoMemory>
-    ensures { OnOk result (text.new.items ≡ text.old.items ++ spawn_text given.now) }
+pub fn put_spawn(text: &mut Vec<u8>, given: Spawn) -> Result<(), NoMemory>
+    ensures { OnOk result (text.new.items ≡ text.old.items ++ spawn_text given) }
 {
     match given {
         Spawn::Stopping => put(text, b"stopping\n"),
         Spawn::Absent => put(text, b"absent\n"),
         Spawn::Running => put(text, b"running\n"),
         Spawn::GiveUp => put(text, b"give-up\n"),
-        Spawn::Go { inc, .. } => put_number_line(text, b"go ", *inc),
+        Spawn::Go { inc, run: _run } => put_number_line(text, b"go ", inc),
     }
 }
 

@@ -1,8 +1,9 @@
 //! The printed texts of answers: what the daemon's calls answer, as lines.
 //!
 //! What is printed of an entry of the history is defined in `specs`, and each function puts the text of one kind of
-//! answer behind what a buffer holds. The crate stands on book_history (the answers), ack_queue (replies), config_model
-//! (faults of a file), text_forms (numbers) and hex (messages). It reads nothing and writes to no pipe.
+//! answer behind what a buffer holds; after want of memory nothing is said of the buffer. The crate stands on
+//! book_history (the answers), ack_queue (replies), config_model (faults of a file), route_grammar (faults of a line),
+//! text_forms (numbers) and hex (messages). It reads nothing and writes to no pipe.
 #![tactic(auto)]
 
 mod daemon;

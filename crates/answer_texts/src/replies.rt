@@ -11,23 +11,23 @@ use arrayvec::ArrayVec;
 use book_history::Take;
 
 /// Puts what was taken, as a script tells it: each reply behind the word `reply`.
-pub fn put_take(text: &mut Vec<u8>, given: &Take) -> Result<(), NoMemory>
-    ensures { OnOk result (text.new.items ≡ text.old.items ++ take_text given.now) }
+pub fn put_take(text: &mut Vec<u8>, given: Take) -> Result<(), NoMemory>
+    ensures { OnOk result (text.new.items ≡ text.old.items ++ take_text given) }
 {
     match given {
         Take::Ended => put(text, b"ended\n"),
         Take::Nothing => put(text, b"nothing\n"),
-        Take::Replies(replies) => put_taken(text, replies),
+        Take::Replies(replies) => put_taken(text, &replies),
     }
 }
 
 /// Puts the replies that were taken, as their helper reads them.
-pub fn put_replies(text: &mut Vec<u8>, given: &Take) -> Result<(), NoMemory>
-    ensures { OnOk result (text.new.items ≡ text.old.items ++ replies_text given.now) }
+pub fn put_replies(text: &mut Vec<u8>, given: Take) -> Result<(), NoMemory>
+    ensures { OnOk result (text.new.items ≡ text.old.items ++ replies_text given) }
 {
     match given {
         Take::Ended | Take::Nothing => Ok(()),
-        Take::Replies(replies) => put_each(text, replies),
+        Take::Replies(replies) => put_each(text, &replies),
     }
 }
 

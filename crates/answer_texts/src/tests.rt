@@ -49,19 +49,19 @@ fn what_becomes_of_a_line_is_one_line(rt: HostRuntime) -> Result<(), Fail> {
 #[test]
 fn helpers_have_their_lines(rt: HostRuntime) -> Result<(), Fail> {
     let mut text = Vec::new(rt.alloc());
-    put_spawn(&mut text, &Spawn::Stopping)?;
-    put_spawn(&mut text, &Spawn::GiveUp)?;
+    put_spawn(&mut text, Spawn::Stopping)?;
+    put_spawn(&mut text, Spawn::GiveUp)?;
     put_spawn(
         &mut text,
-        &Spawn::Go {
+        Spawn::Go {
             inc: 2,
             run: ArrayVec::new(),
         },
     )?;
-    put_take(&mut text, &Take::Nothing)?;
-    put_take(&mut text, &Take::Replies(two_replies()))?;
-    put_replies(&mut text, &Take::Replies(two_replies()))?;
-    put_replies(&mut text, &Take::Ended)?;
+    put_take(&mut text, Take::Nothing)?;
+    put_take(&mut text, Take::Replies(two_replies()))?;
+    put_replies(&mut text, Take::Replies(two_replies()))?;
+    put_replies(&mut text, Take::Ended)?;
     let lines =
         "stopping\ngive-up\ngo 2\nnothing\nreply done\nreply error memory\ndone\nerror memory\n";
     assert_eq!(rt; text.as_slice(), lines.as_bytes());

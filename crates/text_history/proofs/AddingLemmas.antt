@@ -1,5 +1,5 @@
 -- Items that add entries, one behind the other.
-use Rattle.std.proofs.Common.{ℕ, ◌≡◌, List, [], ◌∷◌, ◌++◌, ap, sym, subst}
+use Rattle.std.proofs.Common.{List, [], ◌∷◌, ◌++◌, ap, subst}
 use Rattle.book_history.specs.Entries.{History}
 use Rattle.text_history.specs.Adding.{Adding}
 

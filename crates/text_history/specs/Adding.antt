@@ -1,5 +1,5 @@
 -- Entries that items add to a history, one item behind the other.
-use Rattle.std.specs.Prelude.{ℕ, ◌≡◌, List, [], ◌∷◌, ◌++◌}
+use Rattle.std.specs.Prelude.{◌≡◌, List, [], ◌∷◌, ◌++◌}
 use Rattle.book_history.specs.Entries.{History}
 
 -- What some items leave of a history. Each adds entries, the newest first, by what stands before it.

@@ -1,6 +1,6 @@
 -- What `encode` adds to a history: a helper that is started, sessions that come up, the helper's lines with the replies
 -- that are taken, and the messages that are then cut.
-use Rattle.std.specs.Prelude.{ℕ, ◌≡◌, ◌≢◌, ◌⊎◌, ◌+◌, ◌==◌, Bool, true, false, List, [], ◌∷◌, ◌++◌, length, Result}
+use Rattle.std.specs.Prelude.{ℕ, ◌≡◌, ◌≢◌, ◌⊎◌, ◌+◌, ◌==◌, ◌&&◌, Bool, true, false, List, [], ◌∷◌, ◌++◌, length, Result}
 use Rattle.std.specs.List.{AllByRecursion}
 use Rattle.route_values.specs.declared.settings.Settings.{Settings}
 use Rattle.route_values.specs.Caps.{Caps, flags}
@@ -21,9 +21,10 @@ use Rattle.book_history.specs.Entries.Entry.{LineEntered, RepliesTaken, SpawnAsk
 use Rattle.text_history.specs.Adding.{Adding}
 use Rattle.text_history.specs.Plays.{IsDrain}
 
--- what a session is brought up with: the families and the path identifiers that the settings send
+-- what a session is brought up with: the families of the settings, and for which of these they send path identifiers
 abbrev pub caps_sent : Settings → Caps
-caps_sent settings = flags settings.ipv4 settings.ipv6 settings.ipv4_send settings.ipv6_send false
+caps_sent settings =
+    flags settings.ipv4 settings.ipv6 (settings.ipv4 && settings.ipv4_send) (settings.ipv6 && settings.ipv6_send) false
 
 -- numbers that go up from one
 abbrev pub numbered : {A : Type 0} → ℕ → List A → List (ℕ × A)

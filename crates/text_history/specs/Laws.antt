@@ -1,7 +1,5 @@
 -- The law of additions: what some items leave, and then what one more adds, is what all of them leave.
 use Rattle.std.specs.Prelude.{ℕ, List, [], ◌∷◌, ◌++◌, Option}
-use Rattle.text_forms.specs.Lines.{Line}
-use Rattle.config_model.specs.declared.sections.Neighbor.{Neighbor}
 use Rattle.book_history.specs.Entries.{History}
 use Rattle.text_history.specs.Adding.{Adding}
 use Rattle.text_history.specs.Encodes.{AddsAnswer, AddsCuts, AddsUp}

@@ -1,5 +1,5 @@
 -- What a script adds to a history: the entries of its events.
-use Rattle.std.specs.Prelude.{ℕ, ◌≡◌, ◌+◌, ◌==◌, Bool, true, false, ⊤, List, [], ◌∷◌, ◌++◌, length, Option, Some, None}
+use Rattle.std.specs.Prelude.{ℕ, ◌≡◌, ◌+◌, ◌==◌, Bool, true, false, List, [], ◌∷◌, ◌++◌, length, Option, Some, None}
 use Rattle.std.specs.Prelude.{Result, if◌then◌else◌, is_some, not}
 use Rattle.std.specs.List.{AllByRecursion}
 use Rattle.route_values.specs.declared.settings.Settings.{Settings}
