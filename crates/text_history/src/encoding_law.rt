@@ -1,8 +1,7 @@
 //! The law of encodings.
 ghost use Rattle.text_history.specs.Leaving.{EncodingsLeaveTables};
 
-use book_history::nothing_pending;
-use peer_history::{batches_are_packed, whole_batches};
+use peer_history::{batches_are_packed, nothing_pending, whole_batches};
 use update_grammar::{reading_is_spelling, written_is_spelled};
 
 /// What `encode` leaves, over every configuration and every input: each neighbour, reading its messages by the grammar
