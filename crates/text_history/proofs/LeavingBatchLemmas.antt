@@ -14,20 +14,20 @@ use Rattle.update_grammar.specs.Net.{net}
 use Rattle.update_grammar.specs.Packed.{ArePacked}
 use Rattle.peer_history.specs.Batches.{opened, first_cut, batch, has_batch, is_refreshed, is_owed, is_marker_owed}
 use Rattle.peer_history.specs.Batches.{is_left, is_marker_left, NothingLeft}
-use Rattle.peer_history.specs.Cuts.{AreLeft, IsDue, IsLegal, MayAnswer, MayCut}
+use Rattle.peer_history.specs.Cuts.{AreLeft, IsDue, IsLegal}
 use Rattle.peer_history.specs.Keys.{is_named, times_named}
 use Rattle.peer_history.specs.Laws.{BatchesArePacked, LeavesTheTable, NothingPending, WholeBatches}
 use Rattle.peer_history.specs.Messages.{said_each, is_marked, mentions}
 use Rattle.peer_history.specs.Same.{differ}
-use Rattle.peer_history.specs.Sessions.{live, peer, session}
+use Rattle.peer_history.specs.Sessions.{peer, session}
 use Rattle.peer_history.specs.Steps.{Step}
 use Rattle.peer_history.specs.Steps.Step.{Cut}
 use Rattle.peer_history.specs.Steps.Answer.{Message, Nothing}
 use Rattle.peer_history.specs.Table.{view}
 use Rattle.peer_history.proofs.SessionLemmas.{at_session, live_stands}
 use Rattle.text_history.proofs.LeavingSameLemmas.{never_differs}
-use Rattle.text_history.proofs.LeavingSlotLemmas.{IsFresh, cut_each, more_each, finished, behind, told, texts}
-use Rattle.text_history.proofs.LeavingSlotLemmas.{texts_finished, live_stays, session_stays, view_stays, told_is}
+use Rattle.text_history.proofs.LeavingSlotLemmas.{IsFresh, cut_each, more_each, finished, behind, told}
+use Rattle.text_history.proofs.LeavingSlotLemmas.{texts_finished, session_stays, view_stays, told_is}
 use Rattle.text_history.proofs.LeavingSlotLemmas.{owed_is, first_is, open_is, batch_is, none_refreshed}
 
 and_false : (a : Bool) → (a && false) ≡ false
@@ -148,7 +148,11 @@ module _ (caps : Caps) (start : List Step) (fresh : IsFresh caps start) (whole :
   all_going sent older is closed nothing =
       let none = none_going older (ap (λ those. opened (cut_each those start)) (sym is) ∙ closed) in
       let empty : sent ≡ [] = is ∙ ap more_each none in
-      record { messages = []; sent_are = empty; nothing = subst (λ those. NothingLeft caps (cut_each those start)) empty nothing }
+      record {
+        messages = [];
+        sent_are = empty;
+        nothing = subst (λ those. NothingLeft caps (cut_each those start)) empty nothing;
+      }
 
   all_whole : (sent : List (List ℕ × Bool)) (bytes : List ℕ) (older : List (List ℕ)) → sent ≡ finished (bytes ∷ older)
       → IsLegal (cut_each sent start) → AllCame sent
@@ -171,8 +175,9 @@ module _ (caps : Caps) (start : List Step) (fresh : IsFresh caps start) (whole :
 
   -- ---- what the messages did
 
-  pub table_is : NothingPending → (messages : List (List ℕ)) → IsLegal (Cut Nothing ∷ cut_each (finished messages) start)
-      → (key : Key) → net (told caps messages) key ≡ view caps start key
+  pub table_is : NothingPending → (messages : List (List ℕ))
+      → IsLegal (Cut Nothing ∷ cut_each (finished messages) start) → (key : Key)
+      → net (told caps messages) key ≡ view caps start key
   table_is pending messages legal key =
       let sent = finished messages in
       ap (λ effects. net effects key)
@@ -186,8 +191,10 @@ module _ (caps : Caps) (start : List Step) (fresh : IsFresh caps start) (whole :
       → times_named (mentions caps messages) key ≡ (if is_some (view caps start key) then 1 else 0)
   named_is [] legal nothing key =
       ap (λ so. if so then 1 else 0) (sym (unnamed (is_owed caps start key)
-      (sym (ap (λ at. is_owed caps at key && not (is_named (mentions caps (batch start)) key)) (first_is caps start fresh [])
-      ∙ ap (λ those. is_owed caps start key && not (is_named (mentions caps those) key)) (batch_is caps start fresh []))
+      (sym (ap (λ at. is_owed caps at key && not (is_named (mentions caps (batch start)) key))
+      (first_is caps start fresh [])
+      ∙ ap (λ those. is_owed caps start key && not (is_named (mentions caps those) key))
+      (batch_is caps start fresh []))
       ∙ nothing.keys key)) ∙ owed_is caps start fresh key)
   named_is (bytes ∷ older) legal nothing key =
       ap (λ those. times_named (mentions caps (bytes ∷ those)) key) (sym (batch_is caps start fresh older))

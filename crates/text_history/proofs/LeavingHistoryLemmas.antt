@@ -1,7 +1,7 @@
 -- The history of an encoding, as the steps of one neighbour slot.
-use Rattle.std.proofs.Common.{ℕ, ◌≡◌, ◌≢◌, Bool, true, false, List, [], ◌∷◌, ◌++◌, Some, Ok, Err, refl, sym, ap, ◌∙◌, subst}
+use Rattle.std.proofs.Common.{ℕ, ◌≡◌, ◌≢◌, Bool, false, List, [], ◌∷◌, ◌++◌, Some, Ok, Err, refl, sym, ap, ◌∙◌, subst}
 use Rattle.std.proofs.Common.{append_assoc, append-nil, eq-eqb, ne_eqb, inl, inr}
-use Rattle.std.specs.Prelude.{Result, Option, if◌then◌else◌, slice_get}
+use Rattle.std.specs.Prelude.{Result, if◌then◌else◌}
 use Rattle.std.specs.List.{AllByRecursion}
 use Rattle.route_values.specs.declared.settings.Settings.{Settings}
 use Rattle.route_values.specs.Caps.{Caps}
@@ -9,9 +9,8 @@ use Rattle.route_grammar.specs.declared.fault.ReadFault.{ReadFault}
 use Rattle.text_forms.specs.Lines.{Line}
 use Rattle.command_grammar.specs.declared.command.Command.{Command}
 use Rattle.config_model.specs.declared.sections.Neighbor.{Neighbor}
-use Rattle.config_model.specs.Plan.{same_settings}
 use Rattle.config_model.specs.Sections.{Sections}
-use Rattle.peer_history.specs.Steps.{Step, Answer}
+use Rattle.peer_history.specs.Steps.{Answer}
 use Rattle.peer_history.specs.Steps.Step.{Up, Cut}
 use Rattle.peer_history.specs.Steps.Answer.{Message}
 use Rattle.book_history.specs.declared.outcomes.Cut.{Cut as Given}
@@ -20,7 +19,7 @@ use Rattle.book_history.specs.declared.outcomes.Up.{Up as Raised}
 use Rattle.book_history.specs.declared.outcomes.Up.TheVariants as up
 use Rattle.book_history.specs.declared.outcomes.Verdict.{Verdict}
 use Rattle.book_history.specs.declared.outcomes.Verdict.TheVariants as verdict
-use Rattle.book_history.specs.Entries.{Entry, History}
+use Rattle.book_history.specs.Entries.{History}
 use Rattle.book_history.specs.Entries.Entry.{CameUp, LineEntered, MessageCut, RepliesTaken}
 use Rattle.book_history.specs.Legal.{IsLegal, has_settings, raised_up}
 use Rattle.book_history.specs.PeerSteps.{answer_of, commanded, step_if, steps_of}
@@ -28,10 +27,9 @@ use Rattle.book_history.specs.Selecting.{selects}
 use Rattle.book_history.specs.Slots.{neighbor_at, peer_slots, slot}
 use Rattle.book_history.specs.Verdicts.{is_stopping}
 use Rattle.book_history.proofs.StepLemmas.{commanded_quiet}
-use Rattle.text_history.specs.Encodes.{AddsAnswer, AddsCuts, AddsUp, AreTaken, IsFullTake, caps_sent}
+use Rattle.text_history.specs.Encodes.{AddsAnswer, AddsUp, AreTaken, IsFullTake, caps_sent}
 use Rattle.text_history.specs.Leaving.{cuts_of}
 use Rattle.text_history.specs.Plays.{IsDrain, IsMessageOf}
-use Rattle.text_history.proofs.LeavingPartLemmas.{IsOther}
 use Rattle.text_history.proofs.LeavingSameLemmas.{settings_self}
 use Rattle.text_history.proofs.LeavingSlotLemmas.{IsFresh, cut_each, fresh_quiet, fresh_up}
 
@@ -168,7 +166,8 @@ module _ (cfg : Sections) (n : ℕ) where
   comes_up : (H : History) (neighbor : Neighbor) → IsOpening H → neighbor_at cfg [] n ≡ Some neighbor
       → raised_up cfg H n neighbor.settings ≡ up.Ok
   comes_up H neighbor opening at =
-      ap (λ so. if so then up.Stopping else (if has_settings (neighbor_at cfg H n) neighbor.settings then up.Ok else up.Stale))
+      ap (λ so. if so then up.Stopping
+      else (if has_settings (neighbor_at cfg H n) neighbor.settings then up.Ok else up.Stale))
       opening.goes_on
       ∙ ap (λ slots. if has_settings (slot slots n) neighbor.settings then up.Ok else up.Stale) opening.slots
       ∙ ap (λ own. if has_settings own neighbor.settings then up.Ok else up.Stale) at
@@ -228,4 +227,5 @@ module _ (cfg : Sections) (n : ℕ) where
         | inl none ↦ subst (λ those. IsUp caps (those ++ (entered ∷ H))) (sym none.1) now
         | inr some ↦ taken_kept caps (entered ∷ H) adds.taken some.1 now
       ] in
-      subst (IsUp caps) (sym (ap (λ those. those ++ H) adds.added_are ∙ append_assoc adds.taken (entered ∷ []) H)) behind
+      subst (IsUp caps)
+      (sym (ap (λ those. those ++ H) adds.added_are ∙ append_assoc adds.taken (entered ∷ []) H)) behind

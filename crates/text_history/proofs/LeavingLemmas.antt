@@ -1,6 +1,6 @@
 -- What an encoding leaves at each neighbour.
-use Rattle.std.proofs.Common.{ℕ, zero, suc, ◌≡◌, ◌≢◌, ◌+◌, Bool, false, List, [], ◌∷◌, ◌++◌, map, Some, refl, sym, ap, ◌∙◌}
-use Rattle.std.proofs.Common.{subst, arith, append-nil}
+use Rattle.std.proofs.Common.{ℕ, zero, suc, ◌≡◌, ◌≢◌, List, [], ◌∷◌, ◌++◌, map, Some, refl, sym, ap, ◌∙◌}
+use Rattle.std.proofs.Common.{subst, arith}
 use Rattle.std.specs.Prelude.{slice_get}
 use Rattle.std.specs.List.{AllByRecursion}
 use Rattle.std.specs.Option.{option_and_then}
@@ -14,25 +14,24 @@ use Rattle.peer_history.specs.Cuts as of_slot
 use Rattle.peer_history.specs.Cuts.{MayAnswer}
 use Rattle.peer_history.specs.Laws.{BatchesArePacked, NothingPending, WholeBatches}
 use Rattle.peer_history.specs.Sessions.{reset}
-use Rattle.peer_history.specs.Steps.{Answer, Step}
+use Rattle.peer_history.specs.Steps.{Answer}
 use Rattle.peer_history.specs.Table.{view}
 use Rattle.peer_history.proofs.MessageLemmas.{Grammar}
-use Rattle.book_history.specs.Entries.{Entry, History}
+use Rattle.book_history.specs.Entries.{History}
 use Rattle.book_history.specs.Entries.Entry.{MessageCut, SpawnAsked}
 use Rattle.book_history.specs.Legal.{IsLegal}
 use Rattle.book_history.specs.PeerSteps.{answer_of, steps_of}
-use Rattle.book_history.specs.Slots.{neighbor_at}
 use Rattle.book_history.proofs.StepLemmas.{legal_before, steps_legal}
 use Rattle.text_history.specs.Adding.{Adding}
-use Rattle.text_history.specs.Encodes.{AddsAnswer, AddsCuts, AddsUp, IsEncode, caps_sent, numbered}
+use Rattle.text_history.specs.Encodes.{AddsAnswer, AddsCuts, AddsUp, caps_sent, numbered}
 use Rattle.text_history.specs.Leaving.{CutsAre, EncodingsLeaveTables, IsServed, cuts_of}
 use Rattle.text_history.specs.Plays.{IsDrain}
 use Rattle.text_history.proofs.LeavingHistoryLemmas.{IsOpening, IsUp, answer_kept, are_entries, as_entries, in_turn}
 use Rattle.text_history.proofs.LeavingHistoryLemmas.{opening_kept, other_drain, own_cut, own_cuts, own_steps, own_up}
 use Rattle.text_history.proofs.LeavingHistoryLemmas.{up_kept}
-use Rattle.text_history.proofs.LeavingPartLemmas.{AreNumbered, Around, GrewFrom, IsOther, around, grown, kept}
+use Rattle.text_history.proofs.LeavingPartLemmas.{GrewFrom, IsOther, around, grown, kept}
 use Rattle.text_history.proofs.LeavingPartLemmas.{numbered_at}
-use Rattle.text_history.proofs.LeavingSlotLemmas.{IsFresh, cut_each}
+use Rattle.text_history.proofs.LeavingSlotLemmas.{cut_each}
 use Rattle.text_history.proofs.LeavingTableLemmas.{cuts_are}
 
 slot_found : (neighbors : List Neighbor) (n : ℕ) (neighbor : Neighbor) → slice_get neighbors n ≡ Some neighbor
@@ -103,7 +102,8 @@ module _ (cfg : Sections) (n : ℕ) (neighbor : Neighbor) (at : slice_get cfg.ne
     -- the slot's own cuts
     own_drain : (answered mid added : History) → IsUp cfg n caps answered → IsUncut answered mid → IsDrain n added
         → IsLegal cfg (added ++ mid)
-        → CutsAre caps (view caps (steps_of cfg n answered)) (reset (steps_of cfg n answered)) (cuts_of n (added ++ mid))
+        → CutsAre caps (view caps (steps_of cfg n answered)) (reset (steps_of cfg n answered))
+            (cuts_of n (added ++ mid))
     own_drain answered mid added is uncut drain legal =
         let start = steps_of cfg n answered in
         let entries = are_entries n drain.messages drain.are in

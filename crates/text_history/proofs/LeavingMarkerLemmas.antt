@@ -11,7 +11,6 @@ use Rattle.route_values.specs.declared.attrs.WireAttrs.{WireAttrs}
 use Rattle.route_values.specs.declared.key.Key.{Key}
 use Rattle.route_values.specs.Caps.{Caps, no_caps}
 use Rattle.route_values.specs.Visible.{has_family}
-use Rattle.update_grammar.specs.declared.effect.Effect.{Effect}
 use Rattle.update_grammar.specs.declared.effect.Effect.TheVariants.{Gone, Here}
 use Rattle.update_grammar.specs.Head.{Head}
 use Rattle.update_grammar.specs.Head as head
@@ -165,7 +164,8 @@ module _ (grammar : Grammar) (caps : Caps) (start : List Step) (fresh : IsFresh 
       let no_four = not_yet messages Ipv4 ends.left in
       let no_six : is_marked Ipv6 messages ≡ false =
       elim (is_marked Ipv6 messages) as (λ so. is_marked Ipv6 messages ≡ so → so ≡ false) [
-        | true ↦ λ e. absurd (let none = split.six e in let left : is_marker_left caps (behind messages start) Ipv4 ≡ true = ends.left in cc)
+        | true ↦ λ e. absurd (let none = split.six e in
+            let left : is_marker_left caps (behind messages start) Ipv4 ≡ true = ends.left in cc)
         | false ↦ λ e. refl
       ] refl in
       let six_none : is_marked Ipv6 (bytes ∷ messages) ≡ false = or_false _ _ (marked Ipv6) no_six in

@@ -7,7 +7,6 @@ use Rattle.std.specs.Prelude.{is_some, if◌then◌else◌, Option}
 use Rattle.std.specs.List.{AllByRecursion, flat_map}
 use Rattle.route_values.specs.declared.addr.Family.{Family}
 use Rattle.route_values.specs.declared.addr.Family.TheVariants.{Ipv4, Ipv6}
-use Rattle.route_values.specs.declared.attrs.WireAttrs.{WireAttrs}
 use Rattle.route_values.specs.declared.key.Key.{Key}
 use Rattle.route_values.specs.Caps.{Caps, no_caps}
 use Rattle.update_grammar.specs.Head as head
@@ -20,10 +19,9 @@ use Rattle.peer_history.specs.Keys.{times_named}
 use Rattle.peer_history.specs.Laws.{BatchesArePacked, NothingPending, WholeBatches}
 use Rattle.peer_history.specs.Messages.{mentions, said, said_each}
 use Rattle.peer_history.specs.Sessions.{live, reset, session}
-use Rattle.peer_history.specs.Steps.{Answer, Code, Step}
+use Rattle.peer_history.specs.Steps.{Code, Step}
 use Rattle.peer_history.specs.Steps.Answer.{Message, Nothing, Reset}
 use Rattle.peer_history.specs.Steps.Step.{Cut}
-use Rattle.peer_history.specs.Steps as step
 use Rattle.peer_history.specs.Table.{view}
 use Rattle.peer_history.proofs.KeyLemmas.{times_named-append}
 use Rattle.peer_history.proofs.MessageLemmas.{Grammar, said_is}
@@ -32,9 +30,9 @@ use Rattle.book_history.specs.declared.outcomes.Cut.TheVariants as cut
 use Rattle.book_history.specs.PeerSteps.{answer_of}
 use Rattle.text_history.specs.Leaving.{CutsAre, CutsLeave, LeaveTable, TellsRoutes, as_answers, marker_if, markers_of}
 use Rattle.text_history.specs.Plays.{is_message}
-use Rattle.text_history.proofs.LeavingBatchLemmas.{AllCame, all_came, named_is, packed_is, table_is}
+use Rattle.text_history.proofs.LeavingBatchLemmas.{all_came, named_is, packed_is, table_is}
 use Rattle.text_history.proofs.LeavingHistoryLemmas.{in_turn}
-use Rattle.text_history.proofs.LeavingMarkerLemmas.{EndWithMarkers, came, end_with_markers}
+use Rattle.text_history.proofs.LeavingMarkerLemmas.{came, end_with_markers}
 use Rattle.text_history.proofs.LeavingSlotLemmas.{IsFresh, cut_each, finished, live_stays, more_each, session_stays, told}
 
 -- ---- the other way round
@@ -84,9 +82,6 @@ named_turned caps (bytes ∷ older) key =
     ∙ sym (times_named-append (map named_by (said caps bytes)) (mentions caps older) key)
 
 -- ---- the answers
-
-more_answers : List (List ℕ) → List Answer → List Answer
-more_answers messages behind = map (λ bytes. Message bytes false) messages ++ behind
 
 answers_end : (messages : List (List ℕ)) (bytes : List ℕ)
     → as_answers (messages ++ bytes ∷ []) ≡ map (λ text. Message text false) messages ++ Message bytes true ∷ []

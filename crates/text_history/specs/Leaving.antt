@@ -1,5 +1,5 @@
--- What the messages of `encode` leave at a neighbour that reads them by the grammar of UPDATE messages (RFC 4271, section
--- 4.3; RFC 4760; RFC 7911). The End-of-RIB marker is that of RFC 4724, section 2.
+-- What the messages of `encode` leave at a neighbour that reads them by the grammar of UPDATE messages (RFC 4271,
+-- section 4.3; RFC 4760; RFC 7911). The End-of-RIB marker is that of RFC 4724, section 2.
 use Rattle.std.specs.Prelude.{ℕ, ◌≡◌, ◌<◌, ◌≤◌, ◌==◌, Bool, true, false, List, [], ◌∷◌, ◌++◌, length, reverse}
 use Rattle.std.specs.Prelude.{if◌then◌else◌, is_some, slice_get, Option, Some, None}
 use Rattle.std.specs.List.{flat_map, AllByRecursion}
@@ -8,7 +8,6 @@ use Rattle.route_values.specs.declared.addr.Family.TheVariants.{Ipv4, Ipv6}
 use Rattle.route_values.specs.declared.attrs.WireAttrs.{WireAttrs}
 use Rattle.route_values.specs.declared.key.Key.{Key}
 use Rattle.route_values.specs.Caps.{Caps, no_caps}
-use Rattle.update_grammar.specs.declared.effect.Effect.{Effect}
 use Rattle.update_grammar.specs.Head as head
 use Rattle.update_grammar.specs.Net.{net}
 use Rattle.update_grammar.specs.Packed.{room, ArePacked}
@@ -55,8 +54,8 @@ pub record TellsRoutes (caps : Caps) (bytes : List ℕ) : Type 0 where
   pub some : 0 < length (said caps bytes)
   pub fits : length bytes ≤ room caps
 
--- Messages, the first one first, leave exactly this table at a peer that had none. They name each key of the table once,
--- and no other. Those of one kind stand together, and each of them but the last is full.
+-- Messages, the first one first, leave exactly this table at a peer that had none. They name each key of the table
+-- once, and no other. Those of one kind stand together, and each of them but the last is full.
 pub record LeaveTable (caps : Caps) (table : Key → Option WireAttrs) (messages : List (List ℕ)) : Type 0 where
   pub tell : AllByRecursion (TellsRoutes caps) messages
   pub leave : (key : Key) → net (flat_map (said caps) messages) key ≡ table key
