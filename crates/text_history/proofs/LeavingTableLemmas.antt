@@ -1,6 +1,6 @@
 -- What a fresh session's cuts are: messages that leave the table, or the code that the session ends with.
-use Rattle.std.proofs.Common.{ℕ, ◌≡◌, ◌+◌, Bool, true, false, List, [], ◌∷◌, ◌++◌, map, reverse, Some, None, refl, sym, ap}
-use Rattle.std.proofs.Common.{◌∙◌, subst, arith, append_assoc, append-nil}
+use Rattle.std.proofs.Common.{ℕ, ◌≡◌, ◌+◌, Bool, true, false, List, [], ◌∷◌, ◌++◌, map, reverse, Some, None, refl, sym}
+use Rattle.std.proofs.Common.{ap, ◌∙◌, subst, arith, append_assoc, append-nil}
 use Rattle.std.proofs.lemmas.List.{reverse-append, reverse-reverse}
 use Rattle.std.proofs.lemmas.List.Concat.{flat_map-append}
 use Rattle.std.specs.Prelude.{is_some, if◌then◌else◌, Option}
@@ -33,7 +33,8 @@ use Rattle.text_history.specs.Plays.{is_message}
 use Rattle.text_history.proofs.LeavingBatchLemmas.{all_came, named_is, packed_is, table_is}
 use Rattle.text_history.proofs.LeavingHistoryLemmas.{in_turn}
 use Rattle.text_history.proofs.LeavingMarkerLemmas.{came, end_with_markers}
-use Rattle.text_history.proofs.LeavingSlotLemmas.{IsFresh, cut_each, finished, live_stays, more_each, session_stays, told}
+use Rattle.text_history.proofs.LeavingSlotLemmas.{IsFresh, cut_each, finished, live_stays, more_each, session_stays}
+use Rattle.text_history.proofs.LeavingSlotLemmas.{told}
 
 -- ---- the other way round
 
