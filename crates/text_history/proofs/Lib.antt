@@ -1,1 +1,9 @@
 pub mod AddingLemmas
+pub mod LeavingSameLemmas
+pub mod LeavingPartLemmas
+pub mod LeavingSlotLemmas
+pub mod LeavingBatchLemmas
+pub mod LeavingMarkerLemmas
+pub mod LeavingHistoryLemmas
+pub mod LeavingTableLemmas
+pub mod LeavingLemmas

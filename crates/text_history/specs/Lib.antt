@@ -3,3 +3,4 @@ pub mod Configured
 pub mod Plays
 pub mod Encodes
 pub mod Laws
+pub mod Leaving

@@ -5,6 +5,8 @@
 //! is told of files) and text_forms (lines). Nothing here does anything.
 #![tactic(auto)]
 
+mod encoding_law;
 mod laws;
 
+pub use encoding_law::encodings_leave_tables;
 pub use laws::histories_go_on;
