@@ -1,4 +1,0 @@
-pub mod RunLemmas
-pub mod PieceLemmas
-pub mod HeardLemmas
-pub mod ReplyLemmas

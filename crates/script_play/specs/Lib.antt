@@ -1,5 +1,0 @@
-pub mod Status
-pub mod Writing
-pub mod Player
-pub mod Entering
-pub mod Streams
