@@ -116,11 +116,12 @@ module _ (cfg : Sections) (n : ℕ) where
       let entries = are_entries m drain.messages drain.are in
       let is : added ≡ MessageCut m drain.bytes drain.given ∷ as_entries m entries.sent =
       drain.added_are ∙ ap (λ those. MessageCut m drain.bytes drain.given ∷ those) entries.are in
-      let before = as_entries m entries.sent ++ H in
-      (ap (λ those. steps_of cfg n (those ++ H)) is ∙ other_step m before drain.bytes drain.given other
-      ∙ other_steps m entries.sent H other,
-      ap (λ those. cuts_of n (those ++ H)) is ∙ other_cut m before drain.bytes drain.given other
-      ∙ other_cuts m entries.sent H other)
+      let before = as_entries m entries.sent ++ H in (
+        ap (λ those. steps_of cfg n (those ++ H)) is ∙ other_step m before drain.bytes drain.given other
+            ∙ other_steps m entries.sent H other,
+        ap (λ those. cuts_of n (those ++ H)) is ∙ other_cut m before drain.bytes drain.given other
+            ∙ other_cuts m entries.sent H other,
+      )
 
   -- ---- sessions that come up
 

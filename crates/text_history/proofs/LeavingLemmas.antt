@@ -103,7 +103,7 @@ module _ (cfg : Sections) (n : ℕ) (neighbor : Neighbor) (at : slice_get cfg.ne
     own_drain : (answered mid added : History) → IsUp cfg n caps answered → IsUncut answered mid → IsDrain n added
         → IsLegal cfg (added ++ mid)
         → CutsAre caps (view caps (steps_of cfg n answered)) (reset (steps_of cfg n answered))
-            (cuts_of n (added ++ mid))
+        (cuts_of n (added ++ mid))
     own_drain answered mid added is uncut drain legal =
         let start = steps_of cfg n answered in
         let entries = are_entries n drain.messages drain.are in
