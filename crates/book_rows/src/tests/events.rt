@@ -28,7 +28,7 @@ pub enum Event {
     Block(&'static str, u32, u32),
     // This incarnation takes replies.
     Take(u64),
-    // It does so, and how many it takes is told.
+    // It does so, and how many it takes is told, and whether each is `done`.
     Count(u64),
     // It reads no more replies.
     Deaf(u64),

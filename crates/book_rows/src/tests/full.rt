@@ -29,15 +29,17 @@ const REFUSED: Step = (Take(1), "reply error");
 
 const BEGUN: [Step; 1] = [(Spawn(0), "go 1")];
 
-// A book with 64 neighbours, to which 64 lines announced their prefixes; the last line has so many.
-fn filled(rt: &HostRuntime, last: u32) -> Result<Stage, Fail> {
+const REPLIED: [Step; 1] = [TAKEN];
+
+// A book with 64 neighbours, to which 64 lines announced their prefixes.
+fn filled(rt: &HostRuntime) -> Result<Stage, Fail> {
     let file = crowd(rt.alloc())?;
     let mut stage = Stage::open(rt, file.as_str())?;
     stage.play(&BEGUN)?;
-    'lines: for number in 0..63 {
-        stage.play(&[(Block("", number * PREFIXES, PREFIXES), "done"), TAKEN])?;
+    'lines: for number in 0..64 {
+        stage.step(&Block("", number * PREFIXES, PREFIXES), "done")?;
+        stage.play(&REPLIED)?;
     }
-    stage.play(&[(Block("", 63 * PREFIXES, last), "done"), TAKEN])?;
     Ok(stage)
 }
 
@@ -46,48 +48,62 @@ const ONE: &str = "neighbor 127.0.0.1 announce route 172.16.0.0/24 next-hop 192.
 
 const ALL: &str = "announce route 172.16.0.0/24 next-hop 192.0.2.1";
 
-// A key of that neighbour's goes.
-const WITHDRAWN: Step = (
-    Line(1, "neighbor 127.0.0.1 withdraw route 10.0.0.0/24"),
-    "done",
-);
-
+// No node more is taken until one goes. No session stands, so that a withdrawn key is no node.
 const OVER: [Step; 8] = [
     (Line(1, ONE), "error full 4194305"),
     REFUSED,
     (Line(1, ALL), "error full 4194368"),
     REFUSED,
-    WITHDRAWN,
+    (
+        Line(1, "neighbor 127.0.0.1 withdraw route 10.0.0.0/24"),
+        "done",
+    ),
     TAKEN,
     (Line(1, ONE), "done"),
     TAKEN,
 ];
 
-#[test]
-fn a_line_over_4194304_nodes_is_refused_until_one_goes(rt: HostRuntime) -> Result<(), Fail> {
-    let mut stage = filled(&rt, PREFIXES)?;
-    stage.play(&OVER)
-}
-
-// The first neighbour has been sent its 65,535 routes, in 65 messages, and the marker. A withdrawn key stays a node
-// until its withdrawal is sent.
-const SENT: [Step; 12] = [
+// Each neighbour has one route less, and the first one is sent its 65,535 routes, in 65 messages, and the marker.
+const SENT: [Step; 5] = [
+    (Line(1, "withdraw route 10.255.255.0/24"), "done"),
+    TAKEN,
     (Peer(First), "peer"),
     (Up(First, Ipv4), "up"),
     (Drain(First), "66 messages, nothing"),
-    WITHDRAWN,
+];
+
+// A key that was sent stays a node until its withdrawal is sent.
+const KEPT: [Step; 9] = [
+    (
+        Line(1, "neighbor 127.0.0.1 withdraw route 10.0.1.0/24"),
+        "done",
+    ),
     TAKEN,
     (Block("neighbor 127.0.0.1 ", 65_536, 64), "done"),
     TAKEN,
-    (Line(1, ONE), "error full 4194305"),
+    (
+        Line(
+            1,
+            "neighbor 127.0.0.1 announce route 10.0.1.0/25 next-hop 192.0.2.1",
+        ),
+        "error full 4194305",
+    ),
     REFUSED,
     (Drain(First), "2 messages, nothing"),
-    (Line(1, ONE), "done"),
+    (
+        Line(
+            1,
+            "neighbor 127.0.0.1 announce route 10.0.1.0/25 next-hop 192.0.2.1",
+        ),
+        "done",
+    ),
     TAKEN,
 ];
 
 #[test]
-fn a_withdrawn_route_is_a_node_until_its_withdrawal_is_sent(rt: HostRuntime) -> Result<(), Fail> {
-    let mut stage = filled(&rt, PREFIXES - 1)?;
-    stage.play(&SENT)
+fn no_more_than_4194304_nodes_are_taken(rt: HostRuntime) -> Result<(), Fail> {
+    let mut stage = filled(&rt)?;
+    stage.play(&OVER)?;
+    stage.play(&SENT)?;
+    stage.play(&KEPT)
 }

@@ -11,7 +11,7 @@ const ROUTE: &str = "announce route 10.0.0.0/24 next-hop 192.0.2.1";
 const FULL: [Step; 4] = [
     (Lines(1_024, "# x"), "done"),
     (Line(1, "# x"), "busy"),
-    (Count(1), "64 replies"),
+    (Count(1), "64 done"),
     (Line(1, "# x"), "done"),
 ];
 
@@ -153,7 +153,7 @@ const NO_ROOM: [Step; 5] = [
     (Lines(800, "# x"), "done"),
     MANY,
     (Line(1, "show adj-rib out 10.3.0.0/16"), "busy"),
-    (Count(1), "64 replies"),
+    (Count(1), "64 done"),
     FEW_SHOWN,
 ];
 

@@ -70,7 +70,7 @@ const WITH_PATH: Step = (
 
 const WITHHELD: [Step; 3] = [WITH_PATH, (Cut(First), END), (Cut(First), "nothing")];
 
-const WITH_IDENTIFIERS: [Step; 6] = [
+const WITH_IDENTIFIERS: [Step; 7] = [
     (Spawn(0), "go 1"),
     (Peer(First), "peer"),
     (Up(First, Ipv4Path), "up"),
@@ -80,6 +80,7 @@ const WITH_IDENTIFIERS: [Step; 6] = [
         "more 0033 02 0000 0014 40010100 40020602010000FDE9 400304C0000201 00000007 180A0000",
     ),
     (Cut(First), END),
+    (Cut(First), "nothing"),
 ];
 
 #[test]

@@ -157,7 +157,7 @@ fn each_neighbour_is_sent_its_own_routes(rt: HostRuntime) -> Result<(), Fail> {
     play(&rt, USER, &[&BEGUN, &OF_FIRST, &OF_SECOND, &REPLIES])
 }
 
-// The session is lost, and the next one comes up.
+// The first neighbour's session is lost, and the next one comes up.
 const LOST: [Step; 3] = [
     (Down(First), "ok"),
     (Peer(First), "peer"),
@@ -171,8 +171,10 @@ fn a_batch_is_cut_whole_wherever_the_last_session_was_lost(rt: HostRuntime) -> R
     'counts: for count in 0..6 {
         stage.play(&OF_FIRST[..count])?;
         stage.play(&LOST)?;
+        stage.play(&OF_FIRST)?;
+        stage.play(&LOST)?;
     }
-    stage.play(&OF_FIRST)
+    Ok(())
 }
 
 const TORN_DOWN: [Step; 5] = [

@@ -1,8 +1,8 @@
 //! A book on which a story is played.
 use super::events::{At, Carried, Event, Step};
 use super::told::{
-    of_control, of_count, of_cut, of_line, of_measure, of_peer, of_reload, of_silence, of_spawn,
-    of_take, of_up, said, squeezed,
+    expect, of_control, of_count, of_cut, of_line, of_measure, of_peer, of_reload, of_silence,
+    of_spawn, of_take, of_up, said,
 };
 use attr_codec::Message;
 use book_core::{Book, Cut, NotRead, Peer, Verdict};
@@ -15,7 +15,7 @@ use std::test::Fail;
 use text_forms::Line;
 
 // The helper slot of all stories.
-pub const HELPER: usize = 0;
+const HELPER: usize = 0;
 
 // How many bytes a buffer has room for that serves every session.
 const ROOM: usize = 65_535;
@@ -41,7 +41,7 @@ pub fn play(rt: &HostRuntime, file: &str, parts: &[&[Step]]) -> Result<(), Fail>
 }
 
 // What a file says.
-pub fn read(alloc: Global, file: &str) -> Result<Config, ConfigError> {
+fn read(alloc: Global, file: &str) -> Result<Config, ConfigError> {
     let slots = Slots {
         helpers: MAX_HELPERS,
         peers: MAX_PEERS,
@@ -51,11 +51,12 @@ pub fn read(alloc: Global, file: &str) -> Result<Config, ConfigError> {
 
 impl Stage {
     pub fn open(rt: &HostRuntime, file: &str) -> Result<Stage, Fail> {
+        let alloc = rt.alloc();
         let hasher = RandomState::new(rt)?;
-        let config = read(rt.alloc(), file)?;
-        let book = Book::open(rt.alloc(), config, hasher)?;
+        let config = read(alloc, file)?;
+        let book = Book::open(alloc, config, hasher)?;
         Ok(Stage {
-            alloc: rt.alloc(),
+            alloc,
             book,
             seen: None,
         })
@@ -64,96 +65,94 @@ impl Stage {
     // Plays the events in order. It fails at the first one that isn't answered as it says.
     pub fn play(&mut self, story: &[Step]) -> Result<(), Fail> {
         'steps: for (event, wanted) in story {
-            let told = self.tell(*event)?;
-            self.compare(told, wanted)?;
+            self.step(event, wanted)?;
         }
         Ok(())
     }
 
-    // Fails where two texts differ but for their blanks.
-    fn compare(&self, told: String, wanted: &str) -> Result<(), Fail> {
-        if squeezed(self.alloc, told.as_str())? == squeezed(self.alloc, wanted)? {
-            return Ok(());
-        }
-        Err(Fail::new(format!(in self.alloc; "{told} in place of {wanted}")?))
+    // Plays one event.
+    pub fn step(&mut self, event: &Event, wanted: &str) -> Result<(), Fail> {
+        let told = self.tell(event)?;
+        expect(self.alloc, told.as_str(), wanted)
     }
 
     // What an event is answered.
-    pub fn tell(&mut self, event: Event) -> Result<String, Fail> {
-        let alloc = self.alloc;
+    fn tell(&mut self, event: &Event) -> Result<String, Fail> {
         match event {
-            Event::Spawn(now) => of_spawn(alloc, self.book.spawn(HELPER, now)),
-            Event::Line(inc, text) => of_line(alloc, self.line(inc, text)),
-            Event::Lines(times, text) => of_line(alloc, self.lines(times, text)),
-            Event::Block(words, first, count) => self.block(words, first, count),
-            Event::Take(inc) => of_take(alloc, self.book.take(HELPER, inc)),
-            Event::Count(inc) => of_count(alloc, self.book.take(HELPER, inc)),
+            Event::Line(inc, text) => of_line(self.alloc, self.line(*inc, text)),
+            Event::Lines(times, text) => of_line(self.alloc, self.lines(*times, text)),
+            Event::Block(words, first, count) => self.block(words, *first, *count),
+            Event::Control => of_control(self.alloc, self.book.control()),
+            Event::Reload(file) => self.reload(file),
+            _ => self.tell_of_helper(event),
+        }
+    }
+
+    // What an event of the helper is answered.
+    fn tell_of_helper(&mut self, event: &Event) -> Result<String, Fail> {
+        match event {
+            Event::Spawn(now) => of_spawn(self.alloc, self.book.spawn(HELPER, *now)),
+            Event::Take(inc) => of_take(self.alloc, self.book.take(HELPER, *inc)),
+            Event::Count(inc) => of_count(self.alloc, self.book.take(HELPER, *inc)),
             Event::Deaf(inc) => {
-                self.book.deaf(HELPER, inc);
-                said(alloc, "ok")
+                self.book.deaf(HELPER, *inc);
+                said(self.alloc, "ok")
             }
             Event::Gone(inc) => {
-                self.book.gone(HELPER, inc);
-                said(alloc, "ok")
+                self.book.gone(HELPER, *inc);
+                said(self.alloc, "ok")
             }
-            Event::Control => of_control(alloc, self.book.control()),
-            Event::Reload(file) => self.reload(file),
             _ => self.tell_of_session(event),
         }
     }
 
     // What an event of a neighbour is answered.
-    fn tell_of_session(&mut self, event: Event) -> Result<String, Fail> {
-        let alloc = self.alloc;
+    fn tell_of_session(&mut self, event: &Event) -> Result<String, Fail> {
         match event {
-            Event::Peer(at) => of_peer(alloc, self.peer(at)),
-            Event::Up(at, carried) => self.up(at, carried),
+            Event::Peer(at) => of_peer(self.alloc, self.peer(*at)),
+            Event::Up(at, carried) => self.up(*at, *carried),
             Event::Down(at) => {
                 self.book.down(at.slot());
-                said(alloc, "ok")
+                said(self.alloc, "ok")
             }
             Event::Refresh(at, family) => {
-                self.book.refresh(at.slot(), family);
-                said(alloc, "ok")
+                self.book.refresh(at.slot(), *family);
+                said(self.alloc, "ok")
             }
-            Event::Cut(at) => {
-                let (cut, out) = self.cut(at)?;
-                of_cut(alloc, cut, out.bytes())
-            }
-            Event::Measure(at) => {
-                let (cut, out) = self.cut(at)?;
-                of_measure(alloc, cut, out.bytes())
-            }
-            Event::Drain(at) => self.drain(at),
-            _ => said(alloc, "no event of a neighbour"),
+            _ => self.tell_of_messages(event),
+        }
+    }
+
+    // What is cut.
+    fn tell_of_messages(&mut self, event: &Event) -> Result<String, Fail> {
+        match event {
+            Event::Cut(at) => self.cut(*at),
+            Event::Measure(at) => self.measure(*at),
+            Event::Drain(at) => self.drain(*at),
+            _ => said(self.alloc, "no event"),
         }
     }
 
     // An incarnation says a line.
-    pub fn line(&mut self, inc: u64, text: &str) -> Verdict {
+    fn line(&mut self, inc: u64, text: &str) -> Verdict {
         let read = ReadLine::new(self.alloc, Line::Text(text.as_bytes()));
         self.book.line(HELPER, inc, &read)
     }
 
     // The first incarnation says a line so many times, or until it isn't done.
     fn lines(&mut self, times: u32, text: &str) -> Verdict {
-        let mut last = Verdict::Done;
         'times: for _ in 0..times {
-            last = self.line(1, text);
-            if last != Verdict::Done {
-                return last;
+            let verdict = self.line(1, text);
+            if verdict != Verdict::Done {
+                return verdict;
             }
         }
-        last
+        Verdict::Done
     }
 
     // The first incarnation announces many prefixes, from 10.0.0.0/24 on, with these words in front.
-    pub fn block(&mut self, words: &str, first: u32, count: u32) -> Result<String, Fail> {
-        let mut text = String::from_str(self.alloc, words)?;
-        text.push_str("announce attributes next-hop 192.0.2.1 nlri")?;
-        'numbers: for number in first..first.saturating_add(count) {
-            put_net(self.alloc, &mut text, number)?;
-        }
+    fn block(&mut self, words: &str, first: u32, count: u32) -> Result<String, Fail> {
+        let text = nets(self.alloc, words, first, count)?;
         of_line(self.alloc, self.line(1, text.as_str()))
     }
 
@@ -168,32 +167,40 @@ impl Stage {
 
     // A session comes up with the settings that were told last.
     fn up(&mut self, at: At, carried: Carried) -> Result<String, Fail> {
-        match self.seen {
-            None => said(self.alloc, "no settings were told"),
-            Some(settings) => of_up(
-                self.alloc,
-                self.book.up(at.slot(), &settings, carried.caps()),
-            ),
-        }
+        let Some(settings) = self.seen else {
+            return said(self.alloc, "no settings were told");
+        };
+        let up = self.book.up(at.slot(), &settings, carried.caps());
+        of_up(self.alloc, up)
     }
 
-    fn cut(&mut self, at: At) -> Result<(Cut, Message), Fail> {
+    fn cut(&mut self, at: At) -> Result<String, Fail> {
         let mut out = Message::new(self.alloc, ROOM)?;
         let cut = self.book.cut(at.slot(), &mut out);
-        Ok((cut, out))
+        of_cut(self.alloc, cut, out.bytes())
+    }
+
+    fn measure(&mut self, at: At) -> Result<String, Fail> {
+        let mut out = Message::new(self.alloc, ROOM)?;
+        let cut = self.book.cut(at.slot(), &mut out);
+        of_measure(self.alloc, cut, out.bytes())
     }
 
     // Cuts until no message comes.
     fn drain(&mut self, at: At) -> Result<String, Fail> {
-        let alloc = self.alloc;
         for count in 0..MANY {
-            let (cut, _out) = self.cut(at)?;
-            let Cut::Message { .. } = cut else {
-                let answer = of_silence(alloc, cut)?;
-                return Ok(format!(in alloc; "{count} messages, {answer}")?);
-            };
+            let cut = self.next(at)?;
+            if !matches!(cut, Cut::Message { .. }) {
+                return of_silence(self.alloc, count, cut);
+            }
         }
-        said(alloc, "too many messages")
+        said(self.alloc, "too many messages")
+    }
+
+    // Cuts, and passes over the message.
+    fn next(&mut self, at: At) -> Result<Cut, Fail> {
+        let mut out = Message::new(self.alloc, ROOM)?;
+        Ok(self.book.cut(at.slot(), &mut out))
     }
 
     // Reads a file again.
@@ -207,6 +214,16 @@ impl Stage {
             Err(ConfigError::NoMemory) => said(self.alloc, "no memory"),
         }
     }
+}
+
+// A line that announces so many prefixes, from this number on.
+fn nets(alloc: Global, words: &str, first: u32, count: u32) -> Result<String, Fail> {
+    let mut text = String::from_str(alloc, words)?;
+    text.push_str("announce attributes next-hop 192.0.2.1 nlri")?;
+    'numbers: for number in first..first.saturating_add(count) {
+        put_net(alloc, &mut text, number)?;
+    }
+    Ok(text)
 }
 
 // Puts the network of a number: 10.0.0.0/24 is the first one.

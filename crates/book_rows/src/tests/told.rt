@@ -18,8 +18,16 @@ pub fn said(alloc: Global, text: &str) -> Result<String, Fail> {
     Ok(String::from_str(alloc, text)?)
 }
 
+// Fails where two texts differ but for their blanks.
+pub fn expect(alloc: Global, told: &str, wanted: &str) -> Result<(), Fail> {
+    if squeezed(alloc, told)? == squeezed(alloc, wanted)? {
+        return Ok(());
+    }
+    Err(Fail::new(format!(in alloc; "{told} in place of {wanted}")?))
+}
+
 // A text without its blanks.
-pub fn squeezed(alloc: Global, text: &str) -> Result<Vec<u8>, Fail> {
+fn squeezed(alloc: Global, text: &str) -> Result<Vec<u8>, Fail> {
     let mut bytes = Vec::new(alloc);
     'bytes: for byte in text.as_bytes() {
         if !byte.is_ascii_whitespace() {
@@ -84,9 +92,20 @@ pub fn of_count(alloc: Global, take: Take) -> Result<String, Fail> {
         Take::Nothing => said(alloc, "nothing"),
         Take::Replies(replies) => {
             let count = replies.len();
-            Ok(format!(in alloc; "{count} replies")?)
+            let word = kind_of(replies.as_slice());
+            Ok(format!(in alloc; "{count} {word}")?)
         }
     }
+}
+
+// Whether each reply is `done`.
+fn kind_of(replies: &[Reply]) -> &'static str {
+    'replies: for reply in replies {
+        if *reply != Reply::Done {
+            return "replies";
+        }
+    }
+    "done"
 }
 
 pub fn of_peer(alloc: Global, peer: Peer) -> Result<String, Fail> {
@@ -114,7 +133,7 @@ pub fn of_cut(alloc: Global, cut: Cut, message: &[u8]) -> Result<String, Fail> {
             let word = order(last);
             Ok(format!(in alloc; "{word} {digits}")?)
         }
-        _ => of_silence(alloc, cut),
+        _ => of_none(alloc, cut),
     }
 }
 
@@ -127,7 +146,7 @@ pub fn of_measure(alloc: Global, cut: Cut, message: &[u8]) -> Result<String, Fai
             let word = order(last);
             Ok(format!(in alloc; "{word} {len} bytes, {prefixes} prefixes")?)
         }
-        _ => of_silence(alloc, cut),
+        _ => of_none(alloc, cut),
     }
 }
 
@@ -147,13 +166,19 @@ fn announced(alloc: Global, message: &[u8]) -> Result<usize, Fail> {
 }
 
 // An answer without a message.
-pub fn of_silence(alloc: Global, cut: Cut) -> Result<String, Fail> {
+fn of_none(alloc: Global, cut: Cut) -> Result<String, Fail> {
     match cut {
         Cut::Down => said(alloc, "down"),
         Cut::Reset { code, sub } => Ok(format!(in alloc; "reset {code} {sub}")?),
         Cut::Nothing => said(alloc, "nothing"),
         Cut::Message { .. } => said(alloc, "message"),
     }
+}
+
+// Such an answer behind so many messages.
+pub fn of_silence(alloc: Global, count: u32, cut: Cut) -> Result<String, Fail> {
+    let answer = of_none(alloc, cut)?;
+    Ok(format!(in alloc; "{count} messages, {answer}")?)
 }
 
 pub fn of_control(alloc: Global, control: Control) -> Result<String, Fail> {
