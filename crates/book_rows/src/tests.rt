@@ -1,7 +1,6 @@
 //! Stories of one book each, and what a story is made of.
 mod events;
 mod files;
-mod full;
 mod helpers;
 mod reloads;
 mod routes;

@@ -71,7 +71,7 @@ impl Stage {
     }
 
     // Plays one event.
-    pub fn step(&mut self, event: &Event, wanted: &str) -> Result<(), Fail> {
+    fn step(&mut self, event: &Event, wanted: &str) -> Result<(), Fail> {
         let told = self.tell(event)?;
         expect(self.alloc, told.as_str(), wanted)
     }
