@@ -1,0 +1,9 @@
+//! Stories of one book each, and what a story is made of.
+mod events;
+mod files;
+mod helpers;
+mod reloads;
+mod routes;
+mod sessions;
+mod stage;
+mod told;
