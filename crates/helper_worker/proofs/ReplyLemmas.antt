@@ -1,0 +1,160 @@
+-- Replies, taken and written one after the other.
+use Rattle.std.proofs.Common.{ℕ, ◌≡◌, ◌⊎◌, ◌<◌, Bool, true, false, ◌||◌, List, [], ◌∷◌, ◌++◌, Option, Some, None, inl, inr}
+use Rattle.std.proofs.Common.{length, refl, ap, ap₂, sym, subst, ◌∙◌, append_assoc, append-nil, arith}
+use Rattle.std.specs.List.{All, flat_map, list_any}
+use Rattle.std.proofs.lemmas.List.Concat.{flat_map-append}
+use Rattle.std.proofs.lemmas.List.Elements.{All-append, All-cons, All-nil}
+use Rattle.std.proofs.lemmas.List.Folds.{list_any-append}
+use Rattle.outside.specs.Told.{Grows, counted}
+use Rattle.outside.proofs.ToldLemmas.{grows_more}
+use Rattle.ack_queue.specs.Texts.{reply_text}
+use Rattle.book_history.specs.declared.outcomes.Take.{Take}
+use Rattle.book_history.specs.declared.outcomes.Take.TheVariants as take
+use Rattle.book_history.specs.Entries.{Entry}
+use Rattle.book_history.specs.Entries.Entry.{HelperDeaf, RepliesTaken}
+use Rattle.book_gate.specs.Calls.{Enters}
+use Rattle.book_gate.specs.Known.{Known}
+use Rattle.pass_entries.proofs.MakingLemmas.{makes_more, makes_none, makes_one}
+use Rattle.helper_worker.specs.Replies.{Answers, IsReplyOf, ReplyRun, TakesReplies, deaf, is_last, lasts_by, taken, text_by}
+use Rattle.helper_worker.specs.Replies.{text_of}
+use Rattle.helper_worker.proofs.HeardLemmas.{grows_none}
+use Rattle.helper_worker.proofs.RunLemmas.{or_false}
+
+run_taken : (h inc : ℕ) (given : Take) → ReplyRun h inc (text_of given) (is_last given) (RepliesTaken h inc given ∷ [])
+run_taken h inc given =
+    record {
+      only = All-cons (IsReplyOf h inc) (RepliesTaken h inc given) [] (taken given) (All-nil (IsReplyOf h inc));
+      text_is = append-nil (text_of given);
+      last_is = or_false (is_last given);
+    }
+
+run_deaf : (h inc : ℕ) → ReplyRun h inc [] true (HelperDeaf h inc ∷ [])
+run_deaf h inc =
+    record {
+      only = All-cons (IsReplyOf h inc) (HelperDeaf h inc) [] deaf (All-nil (IsReplyOf h inc));
+      text_is = refl;
+      last_is = refl;
+    }
+
+run_both : (h inc : ℕ) (first second : List ℕ) (last : Bool) (front back : List Entry) → ReplyRun h inc first false front
+    → ReplyRun h inc second last back → ReplyRun h inc (first ++ second) last (front ++ back)
+run_both h inc first second last front back one other =
+    record {
+      only = All-append (IsReplyOf h inc) front back one.only other.only;
+      text_is = flat_map-append text_by front back ∙ ap₂ (λ (text next : List ℕ). text ++ next) one.text_is other.text_is;
+      last_is = list_any-append lasts_by front back ∙ ap₂ (λ (one two : Bool). one || two) one.last_is other.last_is;
+    }
+
+-- a count that was counted up
+pub some_counted : (before now : ℕ) → now ≡ counted before → 0 < now
+some_counted before now is = omega arith
+
+module _ {A : Type 0} where
+  -- replies were taken, and all were written
+  pub record AnsweredSoFar (pass : Known A Entry) (h inc : ℕ) (told told' : Option (List ℕ)) (later : Known A Entry)
+      : Type 0 where
+    pub text : List ℕ
+    pub takes : TakesReplies pass h inc text false later
+    pub grows : Grows told told' text
+
+  pub answered_none : (pass : Known A Entry) (h inc : ℕ) (told : Option (List ℕ)) → AnsweredSoFar pass h inc told told pass
+  answered_none pass h inc told =
+      record {
+        text = [];
+        takes =
+            record {
+              entries = [];
+              makes = makes_none pass;
+              run = record { only = All-nil (IsReplyOf h inc); text_is = refl; last_is = refl };
+            };
+        grows = grows_none told;
+      }
+
+  takes_both : (pass between later : Known A Entry) (h inc : ℕ) (first second : List ℕ) (last : Bool)
+      → TakesReplies pass h inc first false between → TakesReplies between h inc second last later
+      → TakesReplies pass h inc (first ++ second) last later
+  takes_both pass between later h inc first second last one other =
+      record {
+        entries = one.entries ++ other.entries;
+        makes = makes_more pass between later one.entries other.entries one.makes other.makes;
+        run = run_both h inc first second last one.entries other.entries one.run other.run;
+      }
+
+  takes_one : (law : A → List Entry → Entry → Type 0) (pass later : Known A Entry) (h inc : ℕ) (given : Take)
+      → Enters law pass (RepliesTaken h inc given) later → TakesReplies pass h inc (text_of given) (is_last given) later
+  takes_one law pass later h inc given entered =
+      record {
+        entries = RepliesTaken h inc given ∷ [];
+        makes = makes_one law pass later (RepliesTaken h inc given) entered;
+        run = run_taken h inc given;
+      }
+
+  -- some were taken and written
+  pub answered_more : (law : A → List Entry → Entry → Type 0) (pass between later : Known A Entry) (h inc : ℕ)
+      (given : Take) (piece : List ℕ) (told mid told' : Option (List ℕ)) → AnsweredSoFar pass h inc told mid between
+      → Enters law between (RepliesTaken h inc given) later → is_last given ≡ false → piece ≡ text_of given
+      → Grows mid told' piece → AnsweredSoFar pass h inc told told' later
+  answered_more law pass between later h inc given piece told mid told' answered entered more piece_is grows =
+      record {
+        text = answered.text ++ text_of given;
+        takes =
+            takes_both pass between later h inc answered.text (text_of given) false answered.takes
+            (subst (λ (last : Bool). TakesReplies between h inc (text_of given) last later) more
+            (takes_one law between later h inc given entered));
+        grows =
+            grows_more told mid told' answered.text (text_of given) answered.grows
+            (subst (λ (text : List ℕ). Grows mid told' text) piece_is grows);
+      }
+
+  -- nothing more comes
+  pub answered_last : (law : A → List Entry → Entry → Type 0) (pass between later : Known A Entry) (h inc : ℕ)
+      (told told' : Option (List ℕ)) (faults : ℕ) → AnsweredSoFar pass h inc told told' between
+      → Enters law between (RepliesTaken h inc take.Ended) later → Answers pass h inc told told' faults later
+  answered_last law pass between later h inc told told' faults answered entered =
+      record {
+        text = answered.text ++ [];
+        takes =
+            takes_both pass between later h inc answered.text [] true answered.takes
+            (takes_one law between later h inc take.Ended entered);
+        wrote =
+            record {
+              part = answered.text;
+              rest = [];
+              text_is = refl;
+              grows = answered.grows;
+              whole = inl refl;
+            };
+      }
+
+  -- the sink failed
+  pub answered_deaf : (law : A → List Entry → Entry → Type 0) (pass between asked later : Known A Entry) (h inc : ℕ)
+      (given : Take) (piece : List ℕ) (told mid told' : Option (List ℕ)) (faults : ℕ)
+      → AnsweredSoFar pass h inc told mid between → Enters law between (RepliesTaken h inc given) asked
+      → is_last given ≡ false → piece ≡ text_of given → Enters law asked (HelperDeaf h inc) later
+      → (part : List ℕ) × (rest : List ℕ) × (piece ≡ part ++ rest) × (0 < length rest) × Grows mid told' part
+      → 0 < faults → Answers pass h inc told told' faults later
+  answered_deaf law pass between asked later h inc given piece told mid told' faults answered entered more piece_is
+      deafened (part, rest, text_is, left, grows) failed =
+      record {
+        text = answered.text ++ (text_of given ++ []);
+        takes =
+            takes_both pass between later h inc answered.text (text_of given ++ []) true answered.takes
+            (takes_both between asked later h inc (text_of given) [] true
+            (subst (λ (last : Bool). TakesReplies between h inc (text_of given) last asked) more
+            (takes_one law between asked h inc given entered))
+            (record {
+              entries = HelperDeaf h inc ∷ [];
+              makes = makes_one law asked later (HelperDeaf h inc) deafened;
+              run = run_deaf h inc;
+            }));
+        wrote =
+            record {
+              part = answered.text ++ part;
+              rest = rest;
+              text_is =
+                  ap (λ (last : List ℕ). answered.text ++ last) (append-nil (text_of given) ∙ (sym piece_is ∙ text_is))
+                  ∙ sym (append_assoc answered.text part rest);
+              grows = grows_more told mid told' answered.text part answered.grows grows;
+              whole = inr failed;
+            };
+      }

@@ -1,0 +1,5 @@
+pub mod Status
+pub mod Writing
+pub mod Player
+pub mod Entering
+pub mod Streams

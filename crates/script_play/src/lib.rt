@@ -1,0 +1,23 @@
+//! The commands that run the daemon's engine over text: a script of events, a helper's lines, and a large input.
+//!
+//! `play` enters the events of a script into a book and writes what each is answered before it reads on. The crate
+//! stands on book_core (the engine), text_history (which histories a command may have), answer_texts (what is printed),
+//! script_grammar and config_reader (lines and files), and outside (sources, sinks, files). It starts no thread and no
+//! child, and opens no session.
+#![tactic(auto)]
+
+mod configured;
+mod daemon;
+mod draining;
+mod halt;
+mod hashing;
+mod helpers;
+mod neighbors;
+mod player;
+mod playing;
+mod status;
+mod writing;
+
+pub use configured::configured;
+pub use playing::play;
+pub use status::{STATUS_ROOM, Status};
