@@ -18,6 +18,5 @@ mod playing;
 mod status;
 mod writing;
 
-pub use configured::configured;
 pub use playing::play;
 pub use status::{STATUS_ROOM, Status};

@@ -1,0 +1,5 @@
+pub mod KnownLemmas
+pub mod AskedLemmas
+pub mod UnreadLemmas
+pub mod DrainLemmas
+pub mod ReloadLemmas
