@@ -3,5 +3,5 @@ pub mod Writing
 pub mod Player
 pub mod Entering
 pub mod Draining
-pub mod Loading
+pub mod Reloading
 pub mod Streams

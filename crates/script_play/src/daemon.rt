@@ -4,9 +4,9 @@ ghost use Rattle.outside.specs.Lent.{LendsNone};
 ghost use Rattle.book_history.specs.Entries.Entry.{ReloadRefused};
 ghost use Rattle.script_grammar.specs.Events as events;
 ghost use Rattle.script_play.specs.Entering.{PutsAsked, PutsReload};
-ghost use Rattle.script_play.specs.Loading.{IsLoaded, PutsEntry};
+ghost use Rattle.script_play.specs.Reloading.{IsLoaded, PutsEntry};
 
-use crate::configured::configured;
+use crate::config_file::configured;
 use crate::halt::Halt;
 use crate::player::Player;
 use crate::status::Status;

@@ -1,6 +1,6 @@
 use Rattle.std.proofs.Common.{refl}
 use Rattle.book_history.specs.Entries.Entry.{Reloaded}
-use Rattle.script_play.specs.Loading.{IsLoaded}
+use Rattle.script_play.specs.Reloading.{IsLoaded}
 use Rattle.script_play.proofs.AskedLemmas.{stands_behind}
 use Rattle.script_play.proofs.ReloadLemmas.{puts_entry}
 use Rattle.script_play.proofs.player.Player.load.Goals as goal

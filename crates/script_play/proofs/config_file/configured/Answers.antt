@@ -1,7 +1,7 @@
 use Rattle.std.proofs.Common.{Err, ap, sym, subst}
 use Rattle.script_play.specs.Status.{IsUnread}
 use Rattle.script_play.proofs.UnreadLemmas.{unread_is}
-use Rattle.script_play.proofs.configured.configured.Goals as goal
+use Rattle.script_play.proofs.config_file.configured.Goals as goal
 
 pub returns-in-Err-clause-unread : goal.returns-in-Err-clause-unread
 returns-in-Err-clause-unread g c =
