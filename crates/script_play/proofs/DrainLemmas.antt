@@ -30,7 +30,8 @@ grows_by_none (Some bytes) = sym (append-nil bytes)
 -- ---- one cut
 
 module _ (was mid now : Player) (n : ℕ) (bytes : List ℕ) (given : Cutting)
-    (cuts : (cfg : Sections) (H : History) → PlayerStands cfg H was → PlayerStands cfg (MessageCut n bytes given ∷ H) mid)
+    (cuts : (cfg : Sections) (H : History) → PlayerStands cfg H was
+    → PlayerStands cfg (MessageCut n bytes given ∷ H) mid)
     (keeps : (cfg : Sections) (H : History) → PlayerStands cfg H mid → PlayerStands cfg H now) where
   -- it was written whole
   pub cut_written : (text : List ℕ) (sink sink' : SinkSeen) → text ≡ shown (MessageCut n bytes given)
