@@ -1,0 +1,2 @@
+//! Files of configurations, and the player of scripts, over files and sinks in memory.
+mod reloads;
