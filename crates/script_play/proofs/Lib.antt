@@ -1,0 +1,4 @@
+pub mod ScriptLemmas
+pub mod PlayedLemmas
+pub mod PieceLemmas
+pub mod StreamLemmas
