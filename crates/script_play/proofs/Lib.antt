@@ -1,4 +1,6 @@
+pub mod LentLemmas
 pub mod ScriptLemmas
 pub mod PlayedLemmas
+pub mod LineLemmas
 pub mod PieceLemmas
 pub mod StreamLemmas

@@ -1,5 +1,5 @@
 -- A piece whose lines are played one after another.
-use Rattle.std.proofs.Common.{ℕ, ◌≡◌, ◌+◌, ◌<◌, ◌≤◌, List, [], ◌∷◌, ◌++◌, length, Option, Ok, Err, ap, sym, ◌∙◌, refl}
+use Rattle.std.proofs.Common.{ℕ, ◌≡◌, ◌+◌, ◌<◌, ◌≤◌, List, [], ◌∷◌, ◌++◌, length, Option, Result, Ok, Err, ap, sym, ◌∙◌, refl}
 use Rattle.std.proofs.Common.{subst, arith, append_assoc, append-nil}
 use Rattle.std.proofs.lemmas.List.{length-append}
 use Rattle.outside.specs.Seen.{SinkSeen}
@@ -60,6 +60,15 @@ longer content cfg bytes behind held last number place player next files files' 
 
 -- ---- pieces one behind the other
 
+-- the files tell the same as before
+pub piece_of : (content told : Option (List ℕ → List ℕ)) (piece held held' : List ℕ) (number number' : ℕ)
+    (was player : Player) (files files' : ℕ) (sink sink' : SinkSeen) (result : Result (Unit {0}) Halt)
+    → told ≡ content → PlaysPiece told piece held held' number number' was player files files' sink sink' result
+    → PlaysPiece content piece held held' number number' was player files files' sink sink' result
+piece_of content told piece held held' number number' was player files files' sink sink' result same plays =
+    subst (λ (of : Option (List ℕ → List ℕ)). PlaysPiece of piece held held' number number' was player files files'
+    sink sink' result) same plays
+
 -- the front of a piece was played, and this rest of it is left
 pub record PlayedFront (content : Option (List ℕ → List ℕ)) (piece rest held held' : List ℕ) (number number' : ℕ)
     (was player : Player) (files files' : ℕ) (sink sink' : SinkSeen) : Type 0 where
@@ -86,24 +95,25 @@ line_behind : (piece front rest part behind : List ℕ) → piece ≡ front ++ r
 line_behind piece front rest part behind piece_is rest_is =
     piece_is ∙ ap (λ (last : List ℕ). front ++ last) (rest_is ∙ sym (append_assoc part (10 ∷ []) behind))
 
-pub front_more : (content : Option (List ℕ → List ℕ)) (piece rest part behind held held' held'' : List ℕ)
+pub front_more : (content told : Option (List ℕ → List ℕ)) (piece rest part behind held held' held'' : List ℕ)
     (number number' number'' : ℕ) (was player next : Player) (files files' files'' : ℕ)
     (sink sink' sink'' : SinkSeen)
     → PlayedFront content piece rest held held' number number' was player files files' sink sink'
-    → rest ≡ part ++ 10 ∷ behind → number'' ≡ number' + 1
-    → PlaysPiece content (ended part) held' held'' number' number'' player next files' files'' sink' sink'' (Ok tt)
+    → rest ≡ part ++ 10 ∷ behind → number'' ≡ number' + 1 → told ≡ content
+    → PlaysPiece told (ended part) held' held'' number' number'' player next files' files'' sink' sink'' (Ok tt)
     → PlayedFront content piece behind held held'' number number'' was next files files'' sink sink''
-front_more content piece rest part behind held held' held'' number number' number'' was player next files files' files''
-    sink sink' sink'' played rest_is next_is plays = record {
-  front = played.front ++ ended part;
-  piece_is = line_behind piece played.front rest part behind played.piece_is rest_is
-      ∙ sym (append_assoc played.front (ended part) behind);
-  plays = λ cfg bytes opened start came.
-      subst (λ (all : List ℕ). CameTo content cfg all held'' number'' next opened files'' start sink'')
-      (append_assoc bytes played.front (ended part))
-      (plays cfg (bytes ++ played.front) opened start (played.plays cfg bytes opened start came));
-  few = omega (arith, played.few, next_is, length-append played.front (ended part), length-append part (10 ∷ []));
-}
+front_more content told piece rest part behind held held' held'' number number' number'' was player next files files' files''
+    sink sink' sink'' played rest_is next_is same plays = record {
+      front = played.front ++ ended part;
+      piece_is = line_behind piece played.front rest part behind played.piece_is rest_is
+          ∙ sym (append_assoc played.front (ended part) behind);
+      plays = λ cfg bytes opened start came.
+          subst (λ (all : List ℕ). CameTo content cfg all held'' number'' next opened files'' start sink'')
+          (append_assoc bytes played.front (ended part))
+          (piece_of content told (ended part) held' held'' number' number'' player next files' files'' sink' sink''
+          (Ok tt) same plays cfg (bytes ++ played.front) opened start (played.plays cfg bytes opened start came));
+      few = omega (arith, played.few, next_is, length-append played.front (ended part), length-append part (10 ∷ []));
+    }
 
 -- there is a number for one line more
 pub front_few : (content : Option (List ℕ → List ℕ)) (piece rest part behind held held' : List ℕ) (number number' : ℕ)
@@ -117,15 +127,15 @@ front_few content piece rest part behind held held' number number' was player fi
     omega (arith, played.few, all, length-append (ended part) behind, length-append part (10 ∷ []))
 
 -- the call stopped in a line behind the front
-pub front_stopped : (content : Option (List ℕ → List ℕ)) (piece rest part behind held held' held'' last : List ℕ)
+pub front_stopped : (content told : Option (List ℕ → List ℕ)) (piece rest part behind held held' held'' last : List ℕ)
     (number number' number'' place : ℕ) (was player next other : Player) (files files' files'' : ℕ)
     (sink sink' sink'' : SinkSeen) (halted : Halt)
     → PlayedFront content piece rest held held' number number' was player files files' sink sink'
-    → rest ≡ part ++ 10 ∷ behind
-    → PlaysPiece content (ended part) held' held'' number' number'' player next files' files'' sink' sink'' (Err halted)
+    → rest ≡ part ++ 10 ∷ behind → told ≡ content
+    → PlaysPiece told (ended part) held' held'' number' number'' player next files' files'' sink' sink'' (Err halted)
     → PlaysPiece content piece held last number place was other files files'' sink sink'' (Err halted)
-front_stopped content piece rest part behind held held' held'' last number number' number'' place was player next other
-    files files' files'' sink sink' sink'' halted played rest_is plays cfg bytes opened start came =
+front_stopped content told piece rest part behind held held' held'' last number number' number'' place was player next other
+    files files' files'' sink sink' sink'' halted played rest_is same plays cfg bytes opened start came =
     let bytes_are : ((bytes ++ played.front) ++ ended part) ++ behind ≡ bytes ++ piece =
     append_assoc (bytes ++ played.front) (ended part) behind
     ∙ append_assoc bytes played.front (ended part ++ behind)
@@ -134,7 +144,8 @@ front_stopped content piece rest part behind held held' held'' last number numbe
     subst (λ (all : List ℕ). GoesOn content cfg all last place other opened files'' start sink'' (Err halted)) bytes_are
     (longer content cfg ((bytes ++ played.front) ++ ended part) behind held'' last number'' place next other opened
     files'' start sink'' halted
-    (plays cfg (bytes ++ played.front) opened start (played.plays cfg bytes opened start came)))
+    (piece_of content told (ended part) held' held'' number' number'' player next files' files'' sink' sink''
+    (Err halted) same plays cfg (bytes ++ played.front) opened start (played.plays cfg bytes opened start came)))
 
 -- ---- what is left of a piece is the front of a line
 

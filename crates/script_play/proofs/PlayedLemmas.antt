@@ -217,26 +217,26 @@ ended_leaves content cfg go_on follow bytes held part number was player opened f
     }
 ended_leaves content cfg go_on follow bytes held part number was player opened files files' start sink sink'
     (Err (halt.Script at)) came no_feed leaves = (
-  line_refused (StayRefused content (bytes ++ ended part) at) content cfg bytes held number was opened files start sink
-      sink' came leaves.2
-      (refused_stays content bytes held part number at came.history came.played no_feed leaves.0 leaves.1),
-  leaves.3 ∙ came.unopened,
-)
+      line_refused (StayRefused content (bytes ++ ended part) at) content cfg bytes held number was opened files start sink
+          sink' came leaves.2
+          (refused_stays content bytes held part number at came.history came.played no_feed leaves.0 leaves.1),
+      leaves.3 ∙ came.unopened,
+    )
 ended_leaves content cfg go_on follow bytes held part number was player opened files files' start sink sink'
     (Err halt.Memory) came no_feed leaves = (
-  ended_stopped content cfg go_on follow bytes held part number was opened files start sink sink' came no_feed leaves.0,
-  stops_later opened files files' start sink sink' halt.Memory came.unopened came.same leaves.1,
-)
+      ended_stopped content cfg go_on follow bytes held part number was opened files start sink sink' came no_feed leaves.0,
+      stops_later opened files files' start sink sink' halt.Memory came.unopened came.same leaves.1,
+    )
 ended_leaves content cfg go_on follow bytes held part number was player opened files files' start sink sink'
     (Err halt.Write) came no_feed leaves = (
-  ended_stopped content cfg go_on follow bytes held part number was opened files start sink sink' came no_feed leaves.0,
-  stops_later opened files files' start sink sink' halt.Write came.unopened came.same leaves.1,
-)
+      ended_stopped content cfg go_on follow bytes held part number was opened files start sink sink' came no_feed leaves.0,
+      stops_later opened files files' start sink sink' halt.Write came.unopened came.same leaves.1,
+    )
 ended_leaves content cfg go_on follow bytes held part number was player opened files files' start sink sink'
     (Err halt.File) came no_feed leaves = (
-  ended_stopped content cfg go_on follow bytes held part number was opened files start sink sink' came no_feed leaves.0,
-  stops_later opened files files' start sink sink' halt.File came.unopened came.same leaves.1,
-)
+      ended_stopped content cfg go_on follow bytes held part number was opened files start sink sink' came no_feed leaves.0,
+      stops_later opened files files' start sink sink' halt.File came.unopened came.same leaves.1,
+    )
 ended_leaves content cfg go_on follow bytes held part number was player opened files files' start sink sink'
     (Err halt.Read) came no_feed leaves = absurd leaves.1
 ended_leaves content cfg go_on follow bytes held part number was player opened files files' start sink sink'
@@ -277,8 +277,7 @@ lost_piece content cfg bytes held piece last number place player next opened fil
     text_is = sym (append-nil (all_of shown came.history));
     taken = came.taken;
   },
-  came.unopened,
-  came.same,
+  (came.unopened, came.same),
 )
 
 -- a line isn't ended, and is longer than one may be
@@ -305,6 +304,11 @@ long_refused content cfg bytes held number player next last place opened files s
 )
 
 -- ---- the last line
+
+-- a list without elements is the empty one
+pub no_elements : (items : List ℕ) → length items ≡ 0 → items ≡ []
+no_elements [] none = refl
+no_elements (item ∷ items) none = absurd (omega (arith, none))
 
 -- there is none
 pub none_last : (content : Option (List ℕ → List ℕ)) (cfg : Sections) (bytes held : List ℕ) (number : ℕ)
@@ -343,8 +347,7 @@ last_leaves : (content : Option (List ℕ → List ℕ)) (cfg : Sections) → Sc
     → Finishes content cfg bytes opened files' start sink' result
 last_leaves content cfg go_on follow bytes held number was player opened files files' start sink sink' (Ok done) came
     some leaves =
-    let line = leaves.0 in
-    (
+    let line = leaves.0 in (
       record {
         history = line.added ++ came.history;
         played = subst (λ (lines : List (List ℕ)). Adding (AddsLine content) [] lines (line.added ++ came.history))
@@ -359,35 +362,35 @@ last_leaves content cfg go_on follow bytes held number was player opened files f
     )
 last_leaves content cfg go_on follow bytes held number was player opened files files' start sink sink'
     (Err (halt.Script at)) came some leaves = (
-  line_refused (IsRefusedAt content bytes at) content cfg bytes held number was opened files start sink sink' came
-      leaves.2
-      (record {
-        before = came.played.lines;
-        line = held;
-        behind = [];
-        lines_are = lines_last came.played.lines bytes held came.played.no_feeds came.played.no_feed
-            came.played.bytes_are some;
-        number_is = omega (arith, leaves.0, came.played.count);
-        played = came.played.played;
-        bad = leaves.1;
-      }),
-  leaves.3 ∙ came.unopened,
-)
+      line_refused (IsRefusedAt content bytes at) content cfg bytes held number was opened files start sink sink' came
+          leaves.2
+          (record {
+            before = came.played.lines;
+            line = held;
+            behind = [];
+            lines_are = lines_last came.played.lines bytes held came.played.no_feeds came.played.no_feed
+                came.played.bytes_are some;
+            number_is = omega (arith, leaves.0, came.played.count);
+            played = came.played.played;
+            bad = leaves.1;
+          }),
+      leaves.3 ∙ came.unopened,
+    )
 last_leaves content cfg go_on follow bytes held number was player opened files files' start sink sink' (Err halt.Memory)
     came some leaves = (
-  last_stopped content cfg go_on follow bytes held number was opened files start sink sink' came some leaves.0,
-  stops_later opened files files' start sink sink' halt.Memory came.unopened came.same leaves.1,
-)
+      last_stopped content cfg go_on follow bytes held number was opened files start sink sink' came some leaves.0,
+      stops_later opened files files' start sink sink' halt.Memory came.unopened came.same leaves.1,
+    )
 last_leaves content cfg go_on follow bytes held number was player opened files files' start sink sink' (Err halt.Write)
     came some leaves = (
-  last_stopped content cfg go_on follow bytes held number was opened files start sink sink' came some leaves.0,
-  stops_later opened files files' start sink sink' halt.Write came.unopened came.same leaves.1,
-)
+      last_stopped content cfg go_on follow bytes held number was opened files start sink sink' came some leaves.0,
+      stops_later opened files files' start sink sink' halt.Write came.unopened came.same leaves.1,
+    )
 last_leaves content cfg go_on follow bytes held number was player opened files files' start sink sink' (Err halt.File)
     came some leaves = (
-  last_stopped content cfg go_on follow bytes held number was opened files start sink sink' came some leaves.0,
-  stops_later opened files files' start sink sink' halt.File came.unopened came.same leaves.1,
-)
+      last_stopped content cfg go_on follow bytes held number was opened files start sink sink' came some leaves.0,
+      stops_later opened files files' start sink sink' halt.File came.unopened came.same leaves.1,
+    )
 last_leaves content cfg go_on follow bytes held number was player opened files files' start sink sink' (Err halt.Read)
     came some leaves = absurd leaves.1
 last_leaves content cfg go_on follow bytes held number was player opened files files' start sink sink' (Err halt.Long)

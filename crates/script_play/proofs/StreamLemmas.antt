@@ -17,6 +17,7 @@ use Rattle.script_play.specs.Streams.{ArePlayed, CameTo, Finishes, GoesOn, Playe
 use Rattle.script_play.specs.Streams.{PlayedToLimit, PlayedToLine, Plays, PlaysLast, PlaysPiece, ReadPart, ReadWhole}
 use Rattle.script_play.specs.Streams.{RefusedBy, StayPart, StayRefused, StoppedIn}
 use Rattle.script_play.specs.Streams.{input_limit, part, read_limit, status_by, unopened}
+use Rattle.script_play.proofs.PieceLemmas.{piece_of}
 use Rattle.script_play.proofs.PlayedLemmas.{grows_none, played_none}
 
 -- so many bytes were read, and their ended lines played
@@ -95,25 +96,26 @@ pub buffer_stays : (rest room : ℕ) (into buffer : List ℕ) → room ≡ min 6
 buffer_stays rest room into buffer is same long =
     omega (arith, length-append into (drop room buffer), length-take room buffer, length-drop room buffer)
 
-pub reached_more : (content : Option (List ℕ → List ℕ)) (cfg : Sections) (source source' source'' : SourceSeen)
+pub reached_more : (content told : Option (List ℕ → List ℕ)) (cfg : Sections) (source source' source'' : SourceSeen)
     (sink sink' sink'' : SinkSeen) (files files' files'' : ℕ) (player next : Player) (held held' piece : List ℕ)
     (number number' count count' : ℕ)
     → Reached content cfg source source' sink sink' files files' player held number count
-    → GavePiece source' source'' piece
-    → PlaysPiece content piece held held' number number' player next files' files'' sink' sink'' (Ok tt)
+    → GavePiece source' source'' piece → told ≡ content
+    → PlaysPiece told piece held held' number number' player next files' files'' sink' sink'' (Ok tt)
     → number' ≤ number + length piece → count' ≡ count + length piece
     → Reached content cfg source source'' sink sink'' files files'' next held' number' count'
-reached_more content cfg source source' source'' sink sink' sink'' files files' files'' player next held held' piece
-    number number' count count' was gave plays few is = record {
-  bytes = was.bytes ++ piece;
-  given = grows_more source.given source'.given source''.given was.bytes piece was.given gave.given;
-  left = shrinks_more source.left source'.left source''.left was.bytes piece was.left gave.left;
-  ended = gave.ended ∙ was.ended;
-  unfailed = gave.unfailed ∙ was.unfailed;
-  came = plays cfg was.bytes files sink was.came;
-  count_is = omega (arith, length-append was.bytes piece, was.count_is, is);
-  few = omega (arith, few, was.few, is);
-}
+reached_more content told cfg source source' source'' sink sink' sink'' files files' files'' player next held held' piece
+    number number' count count' was gave same plays few is = record {
+      bytes = was.bytes ++ piece;
+      given = grows_more source.given source'.given source''.given was.bytes piece was.given gave.given;
+      left = shrinks_more source.left source'.left source''.left was.bytes piece was.left gave.left;
+      ended = gave.ended ∙ was.ended;
+      unfailed = gave.unfailed ∙ was.unfailed;
+      came = piece_of content told piece held held' number number' player next files' files'' sink' sink'' (Ok tt) same
+          plays cfg was.bytes files sink was.came;
+      count_is = omega (arith, length-append was.bytes piece, was.count_is, is);
+      few = omega (arith, few, was.few, is);
+    }
 
 -- ---- a piece in which the call stopped
 
@@ -137,7 +139,7 @@ piece_few content cfg source source' sink sink' files files' player held piece n
     omega (arith, length-append was.bytes piece, was.count_is, short)
 
 -- what holds whatever follows holds where nothing does
-part_now : (content : Option (List ℕ → List ℕ)) (cfg : Sections) (bytes : List ℕ) (sink sink' : SinkSeen)
+abbrev part_now : (content : Option (List ℕ → List ℕ)) (cfg : Sections) (bytes : List ℕ) (sink sink' : SinkSeen)
     → StoppedIn (StayPart content bytes) cfg sink sink' → StoppedIn (IsPlayPart content bytes) cfg sink sink'
 part_now content cfg bytes sink sink' was = record {
   history = was.history;
@@ -197,21 +199,22 @@ stopped_plays content cfg source source' bytes held number player files files' s
 stopped_plays content cfg source source' bytes held number player files files' sink sink' halt.Long read few same was
     = absurd was.1
 
-pub reached_stopped : (content : Option (List ℕ → List ℕ)) (cfg : Sections) (source source' source'' : SourceSeen)
+pub reached_stopped : (content told : Option (List ℕ → List ℕ)) (cfg : Sections) (source source' source'' : SourceSeen)
     (sink sink' sink'' : SinkSeen) (files files' files'' : ℕ) (player next : Player) (held held' piece : List ℕ)
     (number number' count : ℕ) (halted : Halt)
     → Reached content cfg source source' sink sink' files files' player held number count
-    → GavePiece source' source'' piece
-    → PlaysPiece content piece held held' number number' player next files' files'' sink' sink'' (Err halted)
+    → GavePiece source' source'' piece → told ≡ content
+    → PlaysPiece told piece held held' number number' player next files' files'' sink' sink'' (Err halted)
     → count + length piece < input_limit
     → Plays content cfg source source'' sink sink'' files files'' (status_by (Err halted))
-reached_stopped content cfg source source' source'' sink sink' sink'' files files' files'' player next held held' piece
-    number number' count halted was gave plays short =
+reached_stopped content told cfg source source' source'' sink sink' sink'' files files' files'' player next held held' piece
+    number number' count halted was gave same plays short =
     stopped_plays content cfg source source'' (was.bytes ++ piece) held' number' next files files'' sink sink'' halted
     (piece_read content cfg source source' source'' sink sink' files files' player held piece number count was gave
     (omega (arith, short)))
     (piece_few content cfg source source' sink sink' files files' player held piece number count was short)
-    (gave.unfailed ∙ was.unfailed) (plays cfg was.bytes files sink was.came)
+    (gave.unfailed ∙ was.unfailed) (piece_of content told piece held held' number number' player next files' files'' sink' sink'' (Err halted) same plays
+    cfg was.bytes files sink was.came)
 
 -- ---- the limit
 
@@ -233,8 +236,7 @@ piece_limit content cfg source source' source'' sink sink' files files' player h
     let full : length (was.bytes ++ piece) ≡ input_limit =
     omega (arith, length-append was.bytes piece, was.count_is, is) in
     let read = piece_read content cfg source source' source'' sink sink' files files' player held piece number count was
-    gave (omega (arith, is)) in
-    (
+    gave (omega (arith, is)) in (
       record {
         last = piece;
         few = few;
@@ -285,25 +287,25 @@ pub reached_failed : (content : Option (List ℕ → List ℕ)) (cfg : Sections)
     → Plays content cfg source source'' sink sink' files files' status.ReadFault
 reached_failed content cfg source source' source'' sink sink' files files' player held number count was short given left
     counts = (
-  record {
-    bytes = was.bytes;
-    read = record {
-      given = grows_more source.given source'.given source''.given was.bytes [] was.given given;
-      left = subst (λ (all : List ℕ). Shrinks source.left source''.left all) (sym (append-nil was.bytes))
-          (subst (λ (told : Option (List ℕ)). Shrinks source.left told was.bytes) (sym left) was.left);
-      short = omega (arith, was.count_is, short, length-append was.bytes []);
-    };
-    held = held;
-    number = number;
-    history = was.came.history;
-    played = was.came.played;
-    legal = was.came.stands.book.held.legal;
-    taken = was.came.taken;
-    same = was.came.same;
-  },
-  subst (λ (before : ℕ). CountsOne before source''.faults) was.unfailed counts,
-  was.came.unopened,
-)
+      record {
+        bytes = was.bytes;
+        read = record {
+          given = grows_more source.given source'.given source''.given was.bytes [] was.given given;
+          left = subst (λ (all : List ℕ). Shrinks source.left source''.left all) (sym (append-nil was.bytes))
+              (subst (λ (told : Option (List ℕ)). Shrinks source.left told was.bytes) (sym left) was.left);
+          short = omega (arith, was.count_is, short, length-append was.bytes []);
+        };
+        held = held;
+        number = number;
+        history = was.came.history;
+        played = was.came.played;
+        legal = was.came.stands.book.held.legal;
+        taken = was.came.taken;
+        same = was.came.same;
+      },
+      subst (λ (before : ℕ). CountsOne before source''.faults) was.unfailed counts,
+      was.came.unopened,
+    )
 
 -- ---- the end
 
@@ -399,17 +401,18 @@ ended_plays content cfg source source' bytes files files' sink sink' (Err halt.R
 ended_plays content cfg source source' bytes files files' sink sink' (Err halt.Long) read was = absurd was.1
 
 -- the end came before the limit
-pub reached_end : (content : Option (List ℕ → List ℕ)) (cfg : Sections) (source source' source'' : SourceSeen)
+pub reached_end : (content told : Option (List ℕ → List ℕ)) (cfg : Sections) (source source' source'' : SourceSeen)
     (sink sink' sink'' : SinkSeen) (files files' files'' : ℕ) (player : Player) (held : List ℕ) (number count : ℕ)
     (result : Result (Unit {0}) Halt)
     → Reached content cfg source source' sink sink' files files' player held number count → count < input_limit
-    → MetEnd source' source'' → PlaysLast content held number player files' files'' sink' sink'' result
+    → MetEnd source' source'' → told ≡ content → PlaysLast told held number player files' files'' sink' sink'' result
     → Plays content cfg source source'' sink sink'' files files'' (status_by result)
-reached_end content cfg source source' source'' sink sink' sink'' files files' files'' player held number count result
-    was short met plays =
+reached_end content told cfg source source' source'' sink sink' sink'' files files' files'' player held number count result
+    was short met same plays =
     ended_plays content cfg source source'' was.bytes files files'' sink sink'' result
     (end_read content cfg source source' source'' sink sink' files files' player held number count was met short)
-    (plays cfg was.bytes files sink was.came)
+    (subst (λ (of : Option (List ℕ → List ℕ)). PlaysLast of held number player files' files'' sink' sink'' result) same
+    plays cfg was.bytes files sink was.came)
 
 -- there was no memory for a player
 pub unopened_plays : (content : Option (List ℕ → List ℕ)) (cfg : Sections) (source : SourceSeen) (sink : SinkSeen)
