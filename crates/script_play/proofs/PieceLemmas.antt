@@ -1,5 +1,6 @@
 -- A piece whose lines are played one after another.
-use Rattle.std.proofs.Common.{ℕ, ◌≡◌, ◌+◌, ◌<◌, ◌≤◌, List, [], ◌∷◌, ◌++◌, length, Option, Result, Ok, Err, ap, sym, ◌∙◌, refl}
+use Rattle.std.proofs.Common.{ℕ, ◌≡◌, ◌+◌, ◌<◌, ◌≤◌, List, [], ◌∷◌, ◌++◌}
+use Rattle.std.proofs.Common.{length, Option, Result, Ok, Err, ap, sym, ◌∙◌, refl}
 use Rattle.std.proofs.Common.{subst, arith, append_assoc, append-nil}
 use Rattle.std.proofs.lemmas.List.{length-append}
 use Rattle.outside.specs.Seen.{SinkSeen}
@@ -102,7 +103,8 @@ pub front_more : (content told : Option (List ℕ → List ℕ)) (piece rest par
     → rest ≡ part ++ 10 ∷ behind → number'' ≡ number' + 1 → told ≡ content
     → PlaysPiece told (ended part) held' held'' number' number'' player next files' files'' sink' sink'' (Ok tt)
     → PlayedFront content piece behind held held'' number number'' was next files files'' sink sink''
-front_more content told piece rest part behind held held' held'' number number' number'' was player next files files' files''
+front_more content told piece rest part behind held held' held'' number number' number'' was player next files files'
+    files''
     sink sink' sink'' played rest_is next_is same plays = record {
       front = played.front ++ ended part;
       piece_is = line_behind piece played.front rest part behind played.piece_is rest_is
@@ -134,7 +136,8 @@ pub front_stopped : (content told : Option (List ℕ → List ℕ)) (piece rest 
     → rest ≡ part ++ 10 ∷ behind → told ≡ content
     → PlaysPiece told (ended part) held' held'' number' number'' player next files' files'' sink' sink'' (Err halted)
     → PlaysPiece content piece held last number place was other files files'' sink sink'' (Err halted)
-front_stopped content told piece rest part behind held held' held'' last number number' number'' place was player next other
+front_stopped content told piece rest part behind held held' held'' last number number' number'' place was player next
+    other
     files files' files'' sink sink' sink'' halted played rest_is same plays cfg bytes opened start came =
     let bytes_are : ((bytes ++ played.front) ++ ended part) ++ behind ≡ bytes ++ piece =
     append_assoc (bytes ++ played.front) (ended part) behind

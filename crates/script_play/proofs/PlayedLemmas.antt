@@ -217,24 +217,28 @@ ended_leaves content cfg go_on follow bytes held part number was player opened f
     }
 ended_leaves content cfg go_on follow bytes held part number was player opened files files' start sink sink'
     (Err (halt.Script at)) came no_feed leaves = (
-      line_refused (StayRefused content (bytes ++ ended part) at) content cfg bytes held number was opened files start sink
+      line_refused (StayRefused content (bytes ++ ended part) at) content cfg bytes held number was opened files start
+          sink
           sink' came leaves.2
           (refused_stays content bytes held part number at came.history came.played no_feed leaves.0 leaves.1),
       leaves.3 ∙ came.unopened,
     )
 ended_leaves content cfg go_on follow bytes held part number was player opened files files' start sink sink'
     (Err halt.Memory) came no_feed leaves = (
-      ended_stopped content cfg go_on follow bytes held part number was opened files start sink sink' came no_feed leaves.0,
+      ended_stopped content cfg go_on follow bytes held part number was opened files start sink sink' came no_feed
+          leaves.0,
       stops_later opened files files' start sink sink' halt.Memory came.unopened came.same leaves.1,
     )
 ended_leaves content cfg go_on follow bytes held part number was player opened files files' start sink sink'
     (Err halt.Write) came no_feed leaves = (
-      ended_stopped content cfg go_on follow bytes held part number was opened files start sink sink' came no_feed leaves.0,
+      ended_stopped content cfg go_on follow bytes held part number was opened files start sink sink' came no_feed
+          leaves.0,
       stops_later opened files files' start sink sink' halt.Write came.unopened came.same leaves.1,
     )
 ended_leaves content cfg go_on follow bytes held part number was player opened files files' start sink sink'
     (Err halt.File) came no_feed leaves = (
-      ended_stopped content cfg go_on follow bytes held part number was opened files start sink sink' came no_feed leaves.0,
+      ended_stopped content cfg go_on follow bytes held part number was opened files start sink sink' came no_feed
+          leaves.0,
       stops_later opened files files' start sink sink' halt.File came.unopened came.same leaves.1,
     )
 ended_leaves content cfg go_on follow bytes held part number was player opened files files' start sink sink'

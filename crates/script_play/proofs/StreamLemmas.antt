@@ -104,7 +104,8 @@ pub reached_more : (content told : Option (List ℕ → List ℕ)) (cfg : Sectio
     → PlaysPiece told piece held held' number number' player next files' files'' sink' sink'' (Ok tt)
     → number' ≤ number + length piece → count' ≡ count + length piece
     → Reached content cfg source source'' sink sink'' files files'' next held' number' count'
-reached_more content told cfg source source' source'' sink sink' sink'' files files' files'' player next held held' piece
+reached_more content told cfg source source' source'' sink sink' sink'' files files' files'' player next held held'
+    piece
     number number' count count' was gave same plays few is = record {
       bytes = was.bytes ++ piece;
       given = grows_more source.given source'.given source''.given was.bytes piece was.given gave.given;
@@ -207,13 +208,15 @@ pub reached_stopped : (content told : Option (List ℕ → List ℕ)) (cfg : Sec
     → PlaysPiece told piece held held' number number' player next files' files'' sink' sink'' (Err halted)
     → count + length piece < input_limit
     → Plays content cfg source source'' sink sink'' files files'' (status_by (Err halted))
-reached_stopped content told cfg source source' source'' sink sink' sink'' files files' files'' player next held held' piece
+reached_stopped content told cfg source source' source'' sink sink' sink'' files files' files'' player next held held'
+    piece
     number number' count halted was gave same plays short =
     stopped_plays content cfg source source'' (was.bytes ++ piece) held' number' next files files'' sink sink'' halted
     (piece_read content cfg source source' source'' sink sink' files files' player held piece number count was gave
     (omega (arith, short)))
     (piece_few content cfg source source' sink sink' files files' player held piece number count was short)
-    (gave.unfailed ∙ was.unfailed) (piece_of content told piece held held' number number' player next files' files'' sink' sink'' (Err halted) same plays
+    (gave.unfailed ∙ was.unfailed) (piece_of content told piece held held' number number' player next files' files''
+    sink' sink'' (Err halted) same plays
     cfg was.bytes files sink was.came)
 
 -- ---- the limit
@@ -407,7 +410,8 @@ pub reached_end : (content told : Option (List ℕ → List ℕ)) (cfg : Section
     → Reached content cfg source source' sink sink' files files' player held number count → count < input_limit
     → MetEnd source' source'' → told ≡ content → PlaysLast told held number player files' files'' sink' sink'' result
     → Plays content cfg source source'' sink sink'' files files'' (status_by result)
-reached_end content told cfg source source' source'' sink sink' sink'' files files' files'' player held number count result
+reached_end content told cfg source source' source'' sink sink' sink'' files files' files'' player held number count
+    result
     was short met same plays =
     ended_plays content cfg source source'' was.bytes files files'' sink sink'' result
     (end_read content cfg source source' source'' sink sink' files files' player held number count was met short)

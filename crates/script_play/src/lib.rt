@@ -21,3 +21,6 @@ mod writing;
 pub use configured::configured;
 pub use playing::play;
 pub use status::{STATUS_ROOM, Status};
+
+#[cfg(test)]
+mod tests;

@@ -5,7 +5,8 @@ ghost use Rattle.outside.specs.Seen.{sink_seen, source_seen};
 ghost use Rattle.script_grammar.specs.Events.{Says, event_told};
 ghost use Rattle.script_grammar.specs.Laws.{HasSlot};
 ghost use Rattle.script_grammar.specs.Reading.{script_line};
-ghost use Rattle.script_play.specs.Streams.{HasNoFeed, Plays, PlaysLast, PlaysLine, PlaysPiece, ended, status_by};
+ghost use Rattle.script_play.specs.Streams.{HasNoFeed, Plays, PlaysLast, PlaysLine, PlaysPiece};
+ghost use Rattle.script_play.specs.Streams.{ended, status_by};
 
 use crate::halt::Halt;
 use crate::player::Player;

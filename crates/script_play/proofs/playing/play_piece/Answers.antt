@@ -10,7 +10,8 @@ pub returns-in_err-play_ended-clause-plays : goal.returns-in_err-play_ended-clau
 returns-in_err-play_ended-clause-plays g c =
     let e = err_from_is_err_and c.from_residual.result c.from_residual.ensures.1 in
     rw (e.1, e.2)
-    (front_stopped (g.F.Files.content c.args.files.now) (g.F.Files.content c.lines.files) c.args.piece.now c.lines.rest.now c.in-Some.part.now
+    (front_stopped (g.F.Files.content c.args.files.now) (g.F.Files.content c.lines.files) c.args.piece.now
+    c.lines.rest.now c.in-Some.part.now
     c.in-Some.behind.now c.args.place.now.held.items c.lines.place.held.items c.play_ended.new.place.held.items
     c.play_ended.new.place.held.items c.args.place.now.number c.lines.place.number c.play_ended.new.place.number
     c.play_ended.new.place.number c.args.player.now c.lines.player c.play_ended.new.player c.play_ended.new.player
@@ -23,7 +24,8 @@ returns-in_err-play_ended-clause-plays g c =
 pub lines-preserved : goal.lines-preserved
 lines-preserved g c = record {
   played =
-      front_more (g.F.Files.content c.args.files.now) (g.F.Files.content c.lines.files) c.args.piece.now c.lines.rest.now c.in-Some.part.now
+      front_more (g.F.Files.content c.args.files.now) (g.F.Files.content c.lines.files) c.args.piece.now
+      c.lines.rest.now c.in-Some.part.now
       c.in-Some.behind.now c.args.place.now.held.items c.lines.place.held.items c.play_ended.new.place.held.items
       c.args.place.now.number c.lines.place.number c.play_ended.new.place.number c.args.player.now c.lines.player
       c.play_ended.new.player (g.F.Files.faults c.args.files.now) (g.F.Files.faults c.lines.files)
