@@ -1,3 +1,8 @@
+pub mod KnownLemmas
+pub mod AskedLemmas
+pub mod UnreadLemmas
+pub mod DrainLemmas
+pub mod ReloadLemmas
 pub mod LentLemmas
 pub mod ScriptLemmas
 pub mod PlayedLemmas

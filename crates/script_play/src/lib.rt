@@ -6,7 +6,7 @@
 //! child, and opens no session.
 #![tactic(auto)]
 
-mod configured;
+mod config_file;
 mod daemon;
 mod draining;
 mod halt;
@@ -18,7 +18,7 @@ mod playing;
 mod status;
 mod writing;
 
-pub use configured::configured;
+pub use config_file::configured;
 pub use playing::play;
 pub use status::{STATUS_ROOM, Status};
 

@@ -5,7 +5,7 @@ ghost use Rattle.config_model.specs.Sections.{Sections};
 ghost use Rattle.book_history.specs.Entries.{History};
 ghost use Rattle.book_history.specs.Entries.Entry.{MessageCut};
 ghost use Rattle.answer_texts.specs.Shown.{shown};
-ghost use Rattle.script_grammar.specs.Events.{Cut, Down, Peer, Refresh, Up};
+ghost use Rattle.script_grammar.specs.Events as events;
 ghost use Rattle.script_play.specs.Entering.{PutsAsked};
 ghost use Rattle.script_play.specs.Player.{PlayerStands};
 
@@ -19,7 +19,7 @@ impl Player {
     // Which neighbour is in a slot. Its settings are kept for a session that comes up.
     pub(crate) fn peer(&mut self, n: usize) -> Result<(), NoMemory>
         requires { n < max_peers }
-        ensures { PutsAsked self.old self.new (Peer n) result }
+        ensures { PutsAsked self.old self.new (events.Peer n) result }
     {
         let given = self.book.peer(n);
         if let Peer::Is(settings) = given {
@@ -32,7 +32,7 @@ impl Player {
     // A session comes up, with the settings that the slot told last. Where it told none there is nothing to enter.
     pub(crate) fn up(&mut self, n: usize, caps: Caps) -> Result<(), NoMemory>
         requires { n < max_peers }
-        ensures { PutsAsked self.old self.new (Up n caps) result }
+        ensures { PutsAsked self.old self.new (events.Up n caps) result }
     {
         let Some(settings) = self.known[n] else {
             return Err(NoMemory);
@@ -45,7 +45,7 @@ impl Player {
     // A session goes down.
     pub(crate) fn down(&mut self, n: usize) -> Result<(), NoMemory>
         requires { n < max_peers }
-        ensures { PutsAsked self.old self.new (Down n) result }
+        ensures { PutsAsked self.old self.new (events.Down n) result }
     {
         self.book.down(n);
         self.text.clear();
@@ -55,7 +55,7 @@ impl Player {
     // A neighbour asks for a family again.
     pub(crate) fn refresh(&mut self, n: usize, family: Family) -> Result<(), NoMemory>
         requires { n < max_peers }
-        ensures { PutsAsked self.old self.new (Refresh n family) result }
+        ensures { PutsAsked self.old self.new (events.Refresh n family) result }
     {
         self.book.refresh(n, family);
         self.text.clear();
@@ -65,7 +65,7 @@ impl Player {
     // The next message of a slot is made.
     pub(crate) fn cut(&mut self, n: usize) -> Result<(), NoMemory>
         requires { n < max_peers }
-        ensures { PutsAsked self.old self.new (Cut n) result }
+        ensures { PutsAsked self.old self.new (events.Cut n) result }
     {
         let given = self.cut_next(n);
         self.put_cut(n, given)
