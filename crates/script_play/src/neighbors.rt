@@ -7,13 +7,14 @@ ghost use Rattle.book_history.specs.Entries.Entry.{MessageCut};
 ghost use Rattle.answer_texts.specs.Shown.{shown};
 ghost use Rattle.script_grammar.specs.Events as events;
 ghost use Rattle.script_play.specs.Entering.{PutsAsked};
-ghost use Rattle.script_play.specs.Player.{PlayerStands};
+ghost use Rattle.script_play.specs.Player.{PlayerStands, known_by};
 
 use crate::player::Player;
 use answer_texts::{put_cut, put_ok, put_peer, put_up};
 use answers::NoMemory;
 use book_core::{Cut, Peer};
-use route_values::{Caps, Family};
+use config_model::MAX_PEERS;
+use route_values::{Caps, Family, Settings};
 
 impl Player {
     // Which neighbour is in a slot. Its settings are kept for a session that comes up.
@@ -22,9 +23,7 @@ impl Player {
         ensures { PutsAsked self.old self.new (events.Peer n) result }
     {
         let given = self.book.peer(n);
-        if let Peer::Is(settings) = given {
-            self.known[n] = Some(settings);
-        }
+        keep(&mut self.known, n, &given);
         self.text.clear();
         put_peer(&mut self.text, &given)
     }
@@ -77,8 +76,7 @@ impl Player {
         ensures { (cfg : Sections) (H : History) → PlayerStands cfg H self.old
             → PlayerStands cfg (MessageCut n self.new.message.bytes result ∷ H) self.new }
     {
-        self.message.clear();
-        self.book.cut(n, &mut self.message)
+        self.message.cut(&mut self.book, n)
     }
 
     // Puts what is printed of a cut, whose message stands in the buffer.
@@ -90,5 +88,15 @@ impl Player {
     {
         self.text.clear();
         put_cut(self.alloc, &mut self.text, n, self.message.bytes(), given)
+    }
+}
+
+// Keeps the settings that a slot told, if it told any.
+fn keep(known: &mut [Option<Settings>; MAX_PEERS], n: usize, given: &Peer)
+    requires { n < max_peers }
+    ensures { known.new ≡ known_by n given.now known.old }
+{
+    if let Peer::Is(settings) = given {
+        known[n] = Some(*settings);
     }
 }
