@@ -54,6 +54,7 @@ impl Player {
 
     /// Whether an event can be entered: one of a session that comes up needs settings that its slot told before.
     pub fn knows(&self, event: &Event<'_>) -> bool
+        requires { HasSlot (event_told event.now) }
         ensures { (cfg : Sections) (H : History) → PlayerStands cfg H self.now
             → result ≡ is_known H (event_told event.now) }
     {

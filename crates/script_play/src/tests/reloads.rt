@@ -1,40 +1,31 @@
 //! Files that a reload names, and a player by itself.
+use super::*;
 use crate::config_file::configured;
 use crate::halt::Halt;
 use crate::player::Player;
-use crate::status::Status;
-use config_model::{ConfigFault, ConfigKind, MAX_HELPERS, MAX_PEERS, Slots};
-use config_reader::read_config;
-use outside::{HeldFile, MemoryFiles, MemorySink};
+use config_model::{ConfigFault, ConfigKind};
 use route_values::{Caps, Family};
 use script_grammar::Event;
-use std::alloc::Global;
-use std::test::Fail;
 
 const SLOTS: Slots = Slots {
     helpers: MAX_HELPERS,
     peers: MAX_PEERS,
 };
 
-const GOOD: &str = "process h { run /bin/cat; }
-neighbor 192.0.2.2 { local-address 192.0.2.9; local-as 65001; peer-as 65002;
-  api { processes [ h ]; } }
-";
-
 const HELD: [HeldFile<'static>; 2] = [
     HeldFile {
-        path: "good.conf",
-        content: GOOD.as_bytes(),
+        path: "one.conf",
+        content: ONE.as_bytes(),
     },
     HeldFile {
-        path: "bad.conf",
-        content: b"process h { run cat;",
+        path: "unfinished.conf",
+        content: UNFINISHED.as_bytes(),
     },
 ];
 
-// A player of the file that is one, over a newly opened book.
+// A player over a newly opened book.
 fn opened(alloc: Global) -> Result<Player, Fail> {
-    let config = read_config(alloc, GOOD.as_bytes(), SLOTS)?;
+    let config = read(alloc, ONE)?;
     Ok(Player::new(alloc, config)?)
 }
 
@@ -46,10 +37,10 @@ fn a_file_that_gives_no_configuration_says_why(rt: HostRuntime) -> Result<(), Fa
         kind: ConfigKind::Token,
     });
     let table: [(&str, &[u64], &[u64], Option<Status>, u64); 4] = [
-        ("good.conf", &[], &[], None, 0),
-        ("bad.conf", &[], &[], Some(unfinished), 0),
-        ("good.conf", &[0], &[], Some(Status::ConfigRead), 1),
-        ("good.conf", &[], &[0], Some(Status::ConfigRead), 1),
+        ("one.conf", &[], &[], None, 0),
+        ("unfinished.conf", &[], &[], Some(unfinished), 0),
+        ("one.conf", &[0], &[], Some(Status::ConfigRead), 1),
+        ("one.conf", &[], &[0], Some(Status::ConfigRead), 1),
     ];
     for (path, failing, failing_reads, why, faults) in &table {
         let mut files = MemoryFiles::new(&HELD, failing, failing_reads);
@@ -82,7 +73,7 @@ fn a_file_that_is_not_read_changes_nothing(rt: HostRuntime) -> Result<(), Fail> 
     let mut files = MemoryFiles::new(&HELD, &[0], &[]);
     let mut sink = MemorySink::new(rt.alloc(), 64, &[])?;
     let mut player = opened(rt.alloc())?;
-    let reload = Event::Reload { path: "good.conf" };
+    let reload = Event::Reload { path: "one.conf" };
     let failed = player.enter(&mut files, &reload, &mut sink);
     assert_eq!(rt; failed, Err(Halt::File));
     assert_eq!(rt; files.faults(), 1);
