@@ -64,7 +64,7 @@ fn a_session_can_come_up_once_its_slot_told_settings(rt: HostRuntime) -> Result<
     assert!(rt; !player.knows(&up));
     player.enter(&mut files, &Event::Peer { n: 0 }, &mut sink)?;
     assert!(rt; player.knows(&up));
-    assert!(rt; sink.bytes() == Some(&b"peer\n"[..]));
+    assert_eq!(rt; sink.bytes(), Some(b"peer\n".as_slice()));
     Ok(())
 }
 
@@ -78,6 +78,6 @@ fn a_file_that_is_not_read_changes_nothing(rt: HostRuntime) -> Result<(), Fail> 
     assert_eq!(rt; failed, Err(Halt::File));
     assert_eq!(rt; files.faults(), 1);
     player.enter(&mut files, &reload, &mut sink)?;
-    assert!(rt; sink.bytes() == Some(&b"reloaded\n"[..]));
+    assert_eq!(rt; sink.bytes(), Some(b"reloaded\n".as_slice()));
     Ok(())
 }
