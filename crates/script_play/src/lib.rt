@@ -7,7 +7,7 @@
 #![tactic(auto)]
 
 mod buffer;
-mod configured;
+mod config_file;
 mod daemon;
 mod draining;
 mod halt;
@@ -19,5 +19,9 @@ mod playing;
 mod status;
 mod writing;
 
+pub use config_file::configured;
 pub use playing::play;
 pub use status::{STATUS_ROOM, Status};
+
+#[cfg(test)]
+mod tests;
