@@ -12,16 +12,19 @@ const SLOTS: Slots = Slots {
     peers: MAX_PEERS,
 };
 
-const HELD: [HeldFile<'static>; 2] = [
-    HeldFile {
-        path: "one.conf",
-        content: ONE.as_bytes(),
-    },
-    HeldFile {
-        path: "unfinished.conf",
-        content: UNFINISHED.as_bytes(),
-    },
-];
+// The files that are at hand.
+fn held() -> [HeldFile<'static>; 2] {
+    [
+        HeldFile {
+            path: "one.conf",
+            content: ONE.as_bytes(),
+        },
+        HeldFile {
+            path: "unfinished.conf",
+            content: UNFINISHED.as_bytes(),
+        },
+    ]
+}
 
 // A player over a newly opened book.
 fn opened(alloc: Global) -> Result<Player, Fail> {
@@ -42,8 +45,9 @@ fn a_file_that_gives_no_configuration_says_why(rt: HostRuntime) -> Result<(), Fa
         ("one.conf", &[0], &[], Some(Status::ConfigRead), 1),
         ("one.conf", &[], &[0], Some(Status::ConfigRead), 1),
     ];
+    let held = held();
     for (path, failing, failing_reads, why, faults) in &table {
-        let mut files = MemoryFiles::new(&HELD, failing, failing_reads);
+        let mut files = MemoryFiles::new(&held, failing, failing_reads);
         let read = configured(rt.alloc(), &mut files, path, SLOTS);
         assert_eq!(rt; read.err(), *why, "{path}");
         assert_eq!(rt; files.faults(), *faults, "{path}");
@@ -54,7 +58,8 @@ fn a_file_that_gives_no_configuration_says_why(rt: HostRuntime) -> Result<(), Fa
 
 #[test]
 fn a_session_can_come_up_once_its_slot_told_settings(rt: HostRuntime) -> Result<(), Fail> {
-    let mut files = MemoryFiles::new(&HELD, &[], &[]);
+    let held = held();
+    let mut files = MemoryFiles::new(&held, &[], &[]);
     let mut sink = MemorySink::new(rt.alloc(), 64, &[])?;
     let mut player = opened(rt.alloc())?;
     let up = Event::Up {
@@ -70,7 +75,8 @@ fn a_session_can_come_up_once_its_slot_told_settings(rt: HostRuntime) -> Result<
 
 #[test]
 fn a_file_that_is_not_read_changes_nothing(rt: HostRuntime) -> Result<(), Fail> {
-    let mut files = MemoryFiles::new(&HELD, &[0], &[]);
+    let held = held();
+    let mut files = MemoryFiles::new(&held, &[0], &[]);
     let mut sink = MemorySink::new(rt.alloc(), 64, &[])?;
     let mut player = opened(rt.alloc())?;
     let reload = Event::Reload { path: "one.conf" };
