@@ -31,7 +31,7 @@ known_told H known n (peer.Is settings) within are = record {
   many = length-set known n (Some settings) ∙ are.many;
   each = λ m few.
       elim (n == m) as (λ b. (n == m) ≡ b → slice_get (slice_set known n (Some settings)) m
-          ≡ Some (if b then Some settings else settings_told m H)) [
+      ≡ Some (if b then Some settings else settings_told m H)) [
         | true ↦ λ same.
             subst (λ k. slice_get (slice_set known n (Some settings)) k ≡ Some (Some settings))
             (eqb-true n m same)
