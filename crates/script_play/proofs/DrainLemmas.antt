@@ -4,7 +4,7 @@ use Rattle.std.proofs.Common.{append-nil, Option, Some, None, Result, Ok, Err}
 use Rattle.std.specs.Prelude.{IsErrAnd}
 use Rattle.std.specs.List.{AllByRecursion}
 use Rattle.outside.specs.Seen.{SinkSeen}
-use Rattle.outside.specs.Told.{Grows, CountsOne}
+use Rattle.outside.specs.Told.{Grows}
 use Rattle.outside.proofs.ToldLemmas.{grows_more}
 use Rattle.config_model.specs.Sections.{Sections}
 use Rattle.book_history.specs.declared.outcomes.Cut.{Cut as Cutting}
@@ -21,11 +21,7 @@ use Rattle.script_play.specs.Draining.{CutBroken, CutWritten, WritesCut}
 use Rattle.script_play.specs.Entering.{Entered, EnteredPart, Enters}
 use Rattle.script_play.specs.Player.{PlayerStands}
 use Rattle.script_play.specs.Writing.{Broke, Stops, Wrote}
-
--- what isn't touched has grown by nothing
-grows_by_none : (told : Option (List ℕ)) → Grows told told []
-grows_by_none None = tt
-grows_by_none (Some bytes) = sym (append-nil bytes)
+use Rattle.script_play.proofs.PlayedLemmas.{grows_none, stops_later}
 
 -- ---- one cut
 
@@ -74,7 +70,7 @@ module _ (was mid now : Player) (n : ℕ) (bytes : List ℕ) (given : Cutting)
       part = [];
       rest = shown (MessageCut n bytes given);
       text_is = refl;
-      taken = grows_by_none sink.taken;
+      taken = grows_none sink.taken;
     },
     subst (λ (some : Halt). Stops files files sink sink some) (sym made) (refl, refl),
   )
@@ -95,7 +91,7 @@ drained_none cfg H n player sink stands = record {
   messages = [];
   are = tt;
   stands = stands;
-  taken = grows_by_none sink.taken;
+  taken = grows_none sink.taken;
   same = refl;
 }
 
@@ -137,17 +133,6 @@ begins_drain n bytes (cut.Reset code sub) messages are = (
 )
 begins_drain n bytes cut.Nothing messages are =
     ([], record { bytes = bytes; given = cut.Nothing; messages = messages; none = refl; are = are; added_are = refl })
-
--- what stopped after something was written stopped from the first on
-stops_from : (files : ℕ) (start sink sink' : SinkSeen) (halted : Halt) → sink.faults ≡ start.faults
-    → Stops files files sink sink' halted → Stops files files start sink' halted
-stops_from files start sink sink' halt.Memory same stops = (stops.0, stops.1 ∙ same)
-stops_from files start sink sink' halt.Write same stops =
-    (stops.0, subst (λ (faults : ℕ). CountsOne faults sink'.faults) same stops.1)
-stops_from files start sink sink' halt.File same stops = (stops.0, stops.1 ∙ same)
-stops_from files start sink sink' halt.Read same stops = absurd stops
-stops_from files start sink sink' halt.Long same stops = absurd stops
-stops_from files start sink sink' (halt.Script line) same stops = absurd stops
 
 module _ (content : Option (List ℕ → List ℕ)) (cfg : Sections) (H : History) (n : ℕ) (player : Player)
     (start sink : SinkSeen) (was : Drained cfg H n player start sink) where
@@ -204,7 +189,7 @@ module _ (content : Option (List ℕ → List ℕ)) (cfg : Sections) (H : Histor
           taken = grows_more start.taken sink.taken sink'.taken (all_of shown was.messages) broken.part was.taken
               broken.taken;
         },
-        stops_from files start sink sink' halted was.same stops,
+        stops_later files files files start sink sink' halted refl was.same stops,
       )
 
   -- messages without an end

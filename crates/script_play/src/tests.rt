@@ -7,6 +7,7 @@ use std::alloc::Global;
 use std::test::Fail;
 
 mod playing;
+mod reloads;
 mod stopping;
 
 // A helper and a neighbour, which hears it.
