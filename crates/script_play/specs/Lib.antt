@@ -3,3 +3,4 @@ pub mod Writing
 pub mod Player
 pub mod Entering
 pub mod Streams
+pub mod Encoding

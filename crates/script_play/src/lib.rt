@@ -9,6 +9,7 @@
 mod configured;
 mod daemon;
 mod draining;
+mod encoding;
 mod halt;
 mod hashing;
 mod helpers;
@@ -19,5 +20,6 @@ mod status;
 mod writing;
 
 pub use configured::configured;
+pub use encoding::encode;
 pub use playing::play;
 pub use status::{STATUS_ROOM, Status};
