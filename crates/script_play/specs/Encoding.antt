@@ -13,13 +13,15 @@ use Rattle.config_model.specs.Sections.{Sections}
 use Rattle.book_history.specs.declared.outcomes.Cut.{Cut}
 use Rattle.book_history.specs.declared.outcomes.Spawn.{Spawn}
 use Rattle.book_history.specs.declared.outcomes.Take.{Take}
+use Rattle.book_history.specs.declared.outcomes.Up.{Up}
 use Rattle.book_history.specs.declared.outcomes.Verdict.{Verdict}
 use Rattle.book_history.specs.Entries.{Entry, History}
-use Rattle.book_history.specs.Entries.Entry.{LineEntered, MessageCut, RepliesTaken, SpawnAsked}
+use Rattle.book_history.specs.Entries.Entry.{CameUp, LineEntered, MessageCut, RepliesTaken, SpawnAsked}
 use Rattle.book_history.specs.Legal.{IsLegal}
 use Rattle.answer_texts.specs.Shown.{all_of, encoded}
 use Rattle.text_history.specs.Adding.{Adding}
-use Rattle.text_history.specs.Encodes.{AddsAnswer, AddsCuts, AddsUp, IsEncode, IsEncodePart, is_full, numbered}
+use Rattle.text_history.specs.Encodes.{AddsAnswer, AddsCuts, AddsUp, IsEncode, IsEncodePart, caps_sent, is_full}
+use Rattle.text_history.specs.Encodes.{numbered}
 use Rattle.text_history.specs.Plays.{is_message}
 use Rattle.script_play.specs.declared.status.Status.{Status}
 use Rattle.script_play.specs.declared.status.Status.TheVariants as status
@@ -130,6 +132,15 @@ CutsOnce n cfg H player sink sink' (Err halted) =
 abbrev pub settings_of : List Neighbor → List Settings
 settings_of neighbors = map (λ neighbor. neighbor.settings) neighbors
 
+-- what a call leaves that starts the helper first of all
+abbrev pub Spawns : Sections → Player → Type 0
+Spawns cfg player = (given : Spawn) × PlayerStands cfg (SpawnAsked 0 0 given ∷ []) player
+
+-- what a call leaves that brings a session up with what these settings send
+abbrev pub Raises : Sections → History → ℕ → Settings → Player → Type 0
+Raises cfg H n settings player =
+    (given : Up) × PlayerStands cfg (CameUp n settings (caps_sent settings) given ∷ H) player
+
 -- the helper was started and the sessions of these neighbours brought up, of which nothing is printed
 pub record Started (cfg : Sections) (neighbors : List Neighbor) (player : Player) : Type 0 where
   pub started : Spawn
@@ -152,15 +163,26 @@ pub record PieceStopped (cfg : Sections) (bytes : List ℕ) (passed : List Line)
   pub lines_are : lines bytes ≡ passed ++ more
   pub answered : FrontAdded AddsAnswer more cfg H sink sink'
 
+-- what a call leaves that goes on with a piece, and stops in it
+abbrev pub PieceGoesOn : Sections → List ℕ → List Line → Cutting → History → Player → SinkSeen → SinkSeen
+    → Result (Unit {0}) Halt → Type 0
+PieceGoesOn cfg bytes passed held H player sink sink' (Ok _) =
+    PieceAnswered cfg bytes passed held H player sink sink'
+PieceGoesOn cfg bytes passed held H player sink sink' (Err halted) =
+    PieceStopped cfg bytes passed H sink sink' × StopsWriting sink sink' halted
+
 -- what a call leaves that answers the lines which end in a piece, whatever came before
 abbrev pub AnswersPiece : List ℕ → Cutting → Cutting → Player → Player → SinkSeen → SinkSeen → Result (Unit {0}) Halt
     → Type 0
-AnswersPiece piece held held' was player sink sink' (Ok _) =
+AnswersPiece piece held held' was player sink sink' result =
     (cfg : Sections) (bytes : List ℕ) (passed : List Line) (H : History) → HasCut bytes passed held
-    → PlayerStands cfg H was → PieceAnswered cfg (bytes ++ piece) passed held' H player sink sink'
-AnswersPiece piece held held' was player sink sink' (Err halted) =
-    ((cfg : Sections) (bytes : List ℕ) (passed : List Line) (H : History) → HasCut bytes passed held
-    → PlayerStands cfg H was → PieceStopped cfg (bytes ++ piece) passed H sink sink') × StopsWriting sink sink' halted
+    → PlayerStands cfg H was → PieceGoesOn cfg (bytes ++ piece) passed held' H player sink sink' result
+
+-- what a call leaves that answers a line
+abbrev pub AnswersLine : Line → Player → Player → SinkSeen → SinkSeen → Result (Unit {0}) Halt → Type 0
+AnswersLine line was player sink sink' result =
+    (cfg : Sections) (H : History) → PlayerStands cfg H was
+    → AddsAll (AddsAnswer H line) cfg H player sink sink' result
 
 -- a source was read to its end, and all its lines were answered
 pub record AnsweredWhole (cfg : Sections) (H : History) (player : Player) (source source' : SourceSeen)

@@ -11,13 +11,14 @@ ghost use Rattle.config_model.specs.Sections.{Sections};
 ghost use Rattle.book_history.specs.Entries.{History};
 ghost use Rattle.book_history.specs.Entries.Entry.{MessageCut, RepliesTaken};
 ghost use Rattle.answer_texts.specs.Shown.{encoded};
-ghost use Rattle.text_history.specs.Encodes.{AddsAnswer, AddsCuts, AreTaken, caps_sent, is_full};
+ghost use Rattle.text_history.specs.Encodes.{AddsCuts, AreTaken, caps_sent, is_full};
 ghost use Rattle.text_history.specs.Encodes.{numbered};
 ghost use Rattle.text_history.specs.Plays.{IsDrain};
 ghost use Rattle.script_play.specs.Player.{PlayerStands};
-ghost use Rattle.script_play.specs.Encoding.{AddsAll, AnswersPiece, AnswersSource, CutsOnce};
-ghost use Rattle.script_play.specs.Encoding.{Encodes, EntersLine, Started, TakesOnce, WorksOff};
-ghost use Rattle.script_play.specs.Encoding.{WritesText, ended_as, settings_of};
+ghost use Rattle.script_play.specs.Encoding.{AddsAll, AnswersLine, AnswersPiece, AnswersSource};
+ghost use Rattle.script_play.specs.Encoding.{CutsOnce, Encodes, EntersLine, Raises, Spawns};
+ghost use Rattle.script_play.specs.Encoding.{Started, TakesOnce};
+ghost use Rattle.script_play.specs.Encoding.{WorksOff, WritesText, ended_as, settings_of};
 
 use crate::halt::Halt;
 use crate::player::Player;
@@ -26,7 +27,7 @@ use crate::writing::write;
 use ack_queue::MAX_TAKEN;
 use answer_texts::put_replies;
 use answers::NoMemory;
-use book_core::{Cut, Take, Verdict};
+use book_core::{Cut, Spawn, Take, Verdict};
 use command_grammar::ReadLine;
 use config_model::Config;
 use line_cutter::LineCutter;
@@ -122,11 +123,32 @@ fn start(player: &mut Player, settings: &[Settings])
     ensures { (cfg : Sections) (neighbors : List Neighbor) → PlayerStands cfg [] player.old
         → settings.now ≡ settings_of neighbors → Started cfg neighbors player.new }
 {
-    player.book.spawn(0, 0);
+    spawn(player);
     'slots: for n in 0..settings.len() {
-        let settings = settings[n];
-        player.book.up(n, &settings, caps_sent(&settings));
+        raise(player, n, settings[n]);
     }
+}
+
+// Starts helper 0.
+fn spawn(player: &mut Player)
+    ensures { (cfg : Sections) → PlayerStands cfg [] player.old → Spawns cfg player.new }
+{
+    match player.book.spawn(0, 0) {
+        Spawn::Stopping | Spawn::Absent | Spawn::Running | Spawn::GiveUp => {}
+        Spawn::Go {
+            inc: _inc,
+            run: _run,
+        } => {}
+    }
+}
+
+// Brings a session up.
+fn raise(player: &mut Player, n: usize, settings: Settings)
+    requires { n < max_peers }
+    ensures { (cfg : Sections) (H : History) → PlayerStands cfg H player.old
+        → Raises cfg H n settings player.new }
+{
+    player.book.up(n, &settings, caps_sent(&settings));
 }
 
 // What a session is brought up with that has these settings.
@@ -202,8 +224,7 @@ fn answer_piece<K: Sink>(
 
 // Enters a line, and writes the replies that it leaves.
 fn answer_line<K: Sink>(player: &mut Player, line: Line<'_>, output: &mut K) -> Result<(), Halt>
-    ensures { (cfg : Sections) (H : History) → PlayerStands cfg H player.old
-        → AddsAll (AddsAnswer H (line_told line.entry)) cfg H player.new
+    ensures { AnswersLine (line_told line.entry) player.old player.new
         (sink_seen K.taken K.faults output.old) (sink_seen K.taken K.faults output.new) result }
 {
     match enter_line(player, line) {
