@@ -14,6 +14,8 @@ use Rattle.book_history.specs.declared.outcomes.Verdict.TheVariants as verdict
 use Rattle.book_history.specs.Entries.{Entry, History}
 use Rattle.book_history.specs.Entries.Entry.{LineEntered, MessageCut, RepliesTaken}
 use Rattle.book_history.specs.Legal.{IsLegal}
+use Rattle.book_core.specs.Seen.{Seen}
+use Rattle.book_core.specs.Stands.{Stands}
 use Rattle.answer_texts.specs.Shown.{all_of, encoded}
 use Rattle.text_history.specs.Encodes.{AddsAnswer, AreTaken, IsFullTake, is_full}
 use Rattle.text_history.specs.Plays.{IsDrain, IsMessageOf, is_message}
@@ -26,6 +28,16 @@ use Rattle.script_play.specs.Encoding.{Added, AddedPart, AddsAll, CutsOnce, Ente
 use Rattle.script_play.specs.Encoding.{TakesOnce, WritesText, WrotePart}
 use Rattle.script_play.proofs.AddedLemmas.{all_both, part_all, run_last, run_left, run_none, run_stopped, stops_later}
 use Rattle.script_play.proofs.AddedLemmas.{wrote_none}
+
+-- replies were taken, which tells no settings
+pub replies_taken : (cfg : Sections) (H : History) (player : Player) (book : Seen) (given : Take)
+    → PlayerStands cfg H player → Stands cfg (RepliesTaken 0 1 given ∷ H) book
+    → PlayerStands cfg (RepliesTaken 0 1 given ∷ H) (record player { book = book })
+replies_taken cfg H player book given was stands = record {
+  book = stands;
+  known = record { many = was.known.many; each = was.known.each };
+  room = was.room;
+}
 
 -- what a call leaves that makes an entry and writes what is printed of it
 entry_printed : (entry : Entry) (cfg : Sections) (H : History) (player : Player) (sink sink' : SinkSeen)
@@ -59,11 +71,6 @@ pub made_part : (n : ℕ) (bytes : List ℕ) (given : Cut) (cfg : Sections) (H :
 made_part n bytes given cfg H now player sink sink' halted stands wrote =
     (bytes, given, record { legal = stands.book.held.legal; wrote = wrote.0 }, wrote.1)
 
--- nothing is printed of a cut that makes nothing
-pub nothing_cut : (n : ℕ) (bytes : List ℕ) (given : Cut) (sink : SinkSeen) → encoded (MessageCut n bytes given) ≡ []
-    → WritesText (encoded (MessageCut n bytes given)) sink sink (Ok tt)
-nothing_cut n bytes given sink none = subst (λ (text : List ℕ). Wrote text sink sink) (sym none) (wrote_none sink)
-
 -- takes that were as many as may be
 pub record TakenSoFar (cfg : Sections) (H : History) (player : Player) (sink sink' : SinkSeen) : Type 0 where
   pub run : Added (AllByRecursion IsFullTake) cfg H player sink sink'
@@ -72,21 +79,21 @@ pub taken_none : (cfg : Sections) (H : History) (player : Player) (sink : SinkSe
     → TakenSoFar cfg H player sink sink
 taken_none cfg H player sink stands = record { run = run_none IsFullTake cfg H player sink stands }
 
-pub taken_more : (cfg : Sections) (H : History) (between player : Player) (sink mid sink' : SinkSeen)
-    (was : TakenSoFar cfg H between sink mid)
-    → TakesOnce cfg (was.run.added ++ H) player mid sink' (Ok true) → TakenSoFar cfg H player sink sink'
-taken_more cfg H between player sink mid sink' was (given, full, printed) = record {
+pub taken_more : (cfg : Sections) (H : History) (between player : Player) (sink mid sink' : SinkSeen) (so : Bool)
+    (was : TakenSoFar cfg H between sink mid) → so ≡ true
+    → TakesOnce cfg (was.run.added ++ H) player mid sink' (Ok so) → TakenSoFar cfg H player sink sink'
+taken_more cfg H between player sink mid sink' so was is (given, full, printed) = record {
   run =
       run_last (AllByRecursion IsFullTake) cfg H sink mid sink' was.run.added (RepliesTaken 0 1 given) player
-      was.run.wrote (record { given = given; full = full; entry_is = refl }, was.run.adds) printed;
+      was.run.wrote (record { given = given; full = full ∙ is; entry_is = refl }, was.run.adds) printed;
 }
 
-pub taken_last : (cfg : Sections) (H : History) (between player : Player) (sink mid sink' : SinkSeen)
-    (was : TakenSoFar cfg H between sink mid)
-    → TakesOnce cfg (was.run.added ++ H) player mid sink' (Ok false) → Added AreTaken cfg H player sink sink'
-taken_last cfg H between player sink mid sink' was (given, few, printed) =
+pub taken_last : (cfg : Sections) (H : History) (between player : Player) (sink mid sink' : SinkSeen) (so : Bool)
+    (was : TakenSoFar cfg H between sink mid) → so ≡ false
+    → TakesOnce cfg (was.run.added ++ H) player mid sink' (Ok so) → Added AreTaken cfg H player sink sink'
+taken_last cfg H between player sink mid sink' so was is (given, few, printed) =
     run_last AreTaken cfg H sink mid sink' was.run.added (RepliesTaken 0 1 given) player was.run.wrote
-    (record { given = given; full = was.run.added; ended = few; are = was.run.adds; taken_are = refl }) printed
+    (record { given = given; full = was.run.added; ended = few ∙ is; are = was.run.adds; taken_are = refl }) printed
 
 -- replies that are taken behind full takes, and then an end
 taken_with : (given : Take) (full : Bool) (entries : History) → is_full given ≡ full → AllByRecursion IsFullTake entries
@@ -139,25 +146,31 @@ message_of n bytes (cut.Reset code sub) is = absurd cc
 message_of n bytes cut.Nothing is = absurd cc
 message_of n bytes (cut.Message last) is = record { bytes = bytes; last = last; entry_is = refl }
 
-pub cut_more : (n : ℕ) (cfg : Sections) (H : History) (between player : Player) (sink mid sink' : SinkSeen)
-    (was : CutSoFar n cfg H between sink mid)
-    → CutsOnce n cfg (was.run.added ++ H) player mid sink' (Ok true) → CutSoFar n cfg H player sink sink'
-cut_more n cfg H between player sink mid sink' was (bytes, given, is, printed) = record {
+pub no_message : (given : Cut) → ((last : Bool) → given ≢ cut.Message last) → false ≡ is_message given
+no_message cut.Down none = refl
+no_message (cut.Reset code sub) none = refl
+no_message cut.Nothing none = refl
+no_message (cut.Message last) none = absurd (none last refl)
+
+pub cut_more : (n : ℕ) (cfg : Sections) (H : History) (between player : Player) (sink mid sink' : SinkSeen) (so : Bool)
+    (was : CutSoFar n cfg H between sink mid) → so ≡ true
+    → CutsOnce n cfg (was.run.added ++ H) player mid sink' (Ok so) → CutSoFar n cfg H player sink sink'
+cut_more n cfg H between player sink mid sink' so was came (bytes, given, is, printed) = record {
   run =
       run_last (AllByRecursion (IsMessageOf n)) cfg H sink mid sink' was.run.added (MessageCut n bytes given) player
-      was.run.wrote (message_of n bytes given is, was.run.adds) printed;
+      was.run.wrote (message_of n bytes given (is ∙ came), was.run.adds) printed;
 }
 
-pub cut_last : (n : ℕ) (cfg : Sections) (H : History) (between player : Player) (sink mid sink' : SinkSeen)
-    (was : CutSoFar n cfg H between sink mid)
-    → CutsOnce n cfg (was.run.added ++ H) player mid sink' (Ok false) → Added (IsDrain n) cfg H player sink sink'
-cut_last n cfg H between player sink mid sink' was (bytes, given, is, printed) =
+pub cut_last : (n : ℕ) (cfg : Sections) (H : History) (between player : Player) (sink mid sink' : SinkSeen) (so : Bool)
+    (was : CutSoFar n cfg H between sink mid) → so ≡ false
+    → CutsOnce n cfg (was.run.added ++ H) player mid sink' (Ok so) → Added (IsDrain n) cfg H player sink sink'
+cut_last n cfg H between player sink mid sink' so was came (bytes, given, is, printed) =
     run_last (IsDrain n) cfg H sink mid sink' was.run.added (MessageCut n bytes given) player was.run.wrote
     (record {
       bytes = bytes;
       given = given;
       messages = was.run.added;
-      none = is;
+      none = is ∙ came;
       are = was.run.adds;
       added_are = refl;
     })
