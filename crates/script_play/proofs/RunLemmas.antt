@@ -1,5 +1,5 @@
 -- Replies that are taken until fewer come, and messages that are cut until none comes.
-use Rattle.std.proofs.Common.{ℕ, ◌≡◌, ◌≢◌, Bool, true, false, List, [], ◌∷◌, ◌++◌, Ok, Err, Result, refl, sym, ap, subst, ◌∙◌}
+use Rattle.std.proofs.Common.{ℕ, ◌≡◌, ◌≢◌, ◌⊎◌, Bool, true, false, List, [], ◌∷◌, ◌++◌, Ok, Err, Result, refl, sym, ap, subst, ◌∙◌}
 use Rattle.std.proofs.Common.{append_assoc, inl, inr}
 use Rattle.std.specs.List.{AllByRecursion}
 use Rattle.outside.specs.Seen.{SinkSeen}
@@ -11,6 +11,7 @@ use Rattle.book_history.specs.declared.outcomes.Take.{Take}
 use Rattle.book_history.specs.declared.outcomes.Take.TheVariants as take
 use Rattle.book_history.specs.declared.outcomes.Verdict.{Verdict}
 use Rattle.book_history.specs.declared.outcomes.Verdict.TheVariants as verdict
+use Rattle.book_history.specs.declared.outcomes.Why.{Why}
 use Rattle.book_history.specs.Entries.{Entry, History}
 use Rattle.book_history.specs.Entries.Entry.{LineEntered, MessageCut, RepliesTaken}
 use Rattle.book_history.specs.Legal.{IsLegal}
@@ -220,6 +221,17 @@ cut_endless n cfg H between now sink sink' was = (
       }),
   was.run.wrote.same,
 )
+
+-- a line that was given another verdict came in time
+pub in_time : (given : Verdict)
+    → (given ≡ verdict.Done) ⊎ ((given ≡ verdict.Busy) ⊎ ((why : Why) × (given ≡ verdict.Error why)))
+    → given ≢ verdict.Ended
+in_time verdict.Ended (inl is) = absurd cc
+in_time verdict.Ended (inr (inl is)) = absurd cc
+in_time verdict.Ended (inr (inr (why, is))) = absurd cc
+in_time verdict.Busy is = λ ended. absurd cc
+in_time (verdict.Error why) is = λ ended. absurd cc
+in_time verdict.Done is = λ ended. absurd cc
 
 -- a line that came too late
 pub line_late : (cfg : Sections) (H : History) (line : Line) (player : Player) (sink : SinkSeen)
