@@ -65,26 +65,6 @@ stops_later sink mid sink' halt.Long same stops = absurd stops
 stops_later sink mid sink' halt.File same stops = absurd stops
 stops_later sink mid sink' (halt.Script line) same stops = absurd stops
 
--- there was no memory for a text
-pub text_unmade : (text : List ℕ) (sink : SinkSeen) (halted : Halt) → halted ≡ halt.Memory
-    → WritesText text sink sink (Err halted)
-text_unmade text sink halted is =
-    subst (λ (ends : Halt). WritesText text sink sink (Err ends)) (sym is) (part_none text sink, refl)
-
--- it was made, and then written
-broke_text : (text : List ℕ) (sink sink' : SinkSeen) (halted : Halt) → Writes text sink sink' (Err halted)
-    → WritesText text sink sink' (Err halted)
-broke_text text sink sink' halted broke = (
-  record { part = broke.part; rest = broke.rest; text_is = broke.text_is; taken = broke.taken },
-  subst (λ (ends : Halt). StopsWriting sink sink' ends) (sym broke.write) broke.counts,
-)
-
-pub text_made : (text made : List ℕ) (sink sink' : SinkSeen) (result : Result (Unit {0}) Halt) → made ≡ text
-    → Writes made sink sink' result → WritesText text sink sink' result
-text_made text made sink sink' (Ok done) is writes = subst (λ (all : List ℕ). Wrote all sink sink') is writes
-text_made text made sink sink' (Err halted) is writes =
-    broke_text text sink sink' halted (subst (λ (all : List ℕ). Writes all sink sink' (Err halted)) is writes)
-
 -- what is printed of entries that were added
 pub all_both : (text : Entry → List ℕ) (added H : History) → all_of text (added ++ H) ≡ all_of text H ++ all_of text added
 all_both text [] H = sym (append-nil (all_of text H))

@@ -23,3 +23,6 @@ pub use configured::configured;
 pub use encoding::encode;
 pub use playing::play;
 pub use status::{STATUS_ROOM, Status};
+
+#[cfg(test)]
+mod tests;

@@ -1,0 +1,2 @@
+//! Commands over sources and sinks in memory.
+mod encoding;
