@@ -10,20 +10,17 @@ ghost use Rattle.text_history.specs.Plays.{is_known};
 ghost use Rattle.script_play.specs.Entering.{Enters, PutsAsked};
 ghost use Rattle.script_play.specs.Player.{PlayerStands};
 
+use crate::buffer::Buffer;
 use crate::halt::Halt;
 use crate::hashing::fixed_state;
 use crate::writing::write;
 use answers::NoMemory;
-use attr_codec::Message;
 use book_core::Book;
 use config_model::{Config, MAX_PEERS};
 use outside::{Files, Sink};
 use route_values::Settings;
 use script_grammar::Event;
 use std::alloc::Global;
-
-/// How many bytes a message may have.
-pub const MAX_MESSAGE: usize = 65_535;
 
 /// A book to which the events of a script happen, with what the events before told of neighbours. Its buffers are used
 /// again for each event.
@@ -33,7 +30,7 @@ pub struct Player {
     pub(crate) book: Book,
     // The settings that each neighbour slot told last.
     pub(crate) known: [Option<Settings>; MAX_PEERS],
-    pub(crate) message: Message,
+    pub(crate) message: Buffer,
     // What is printed of the event that was entered last.
     pub(crate) text: Vec<u8>,
 }
@@ -44,7 +41,7 @@ impl Player {
         ensures { IfOk result (PlayerStands config []) }
     {
         let hasher = fixed_state()?;
-        let message = Message::new(alloc, MAX_MESSAGE)?;
+        let message = Buffer::new(alloc)?;
         let book = Book::open(alloc, config, hasher)?;
         Ok(Player {
             alloc,
@@ -57,6 +54,7 @@ impl Player {
 
     /// Whether an event can be entered: one of a session that comes up needs settings that its slot told before.
     pub fn knows(&self, event: &Event<'_>) -> bool
+        requires { HasSlot (event_told event.now) }
         ensures { (cfg : Sections) (H : History) → PlayerStands cfg H self.now
             → result ≡ is_known H (event_told event.now) }
     {
