@@ -7,17 +7,21 @@
 #![tactic(auto)]
 
 mod configured;
+mod counting;
 mod daemon;
 mod draining;
 mod halt;
 mod hashing;
 mod helpers;
+mod loading;
 mod neighbors;
 mod player;
 mod playing;
+mod standing;
 mod status;
 mod writing;
 
 pub use configured::configured;
+pub use loading::load;
 pub use playing::play;
 pub use status::{STATUS_ROOM, Status};

@@ -1,0 +1,258 @@
+//! A large input: many routes are announced, half of them are withdrawn, and what came of it is counted.
+ghost use Rattle.std.specs.Prelude.{◌≡◌, ◌+◌, ◌*◌, ◌<◌, ◌≤◌, ◌++◌, ℕ, [], IfOk, MatchResult, length};
+ghost use Rattle.outside.specs.Seen.{sink_seen};
+ghost use Rattle.arrayvec.specs.ArrayVec.{array_vec_len};
+ghost use Rattle.config_model.specs.Sections.{Sections};
+ghost use Rattle.book_history.specs.Bounds.{numbers_from};
+ghost use Rattle.book_history.specs.Entries.{History};
+ghost use Rattle.book_core.specs.Stands.{Stands};
+ghost use Rattle.text_history.specs.Adding.{Adding};
+ghost use Rattle.script_play.specs.Loads.{AddsAnnounce, AddsWithdraw, AreCut, IsEntered, announce_line};
+ghost use Rattle.script_play.specs.Loads.{load_caps, load_prefix, max_routes, withdraw_line};
+ghost use Rattle.script_play.specs.Loading.{Begins, Cuts, Enters, IsCounted, IsFresh};
+ghost use Rattle.script_play.specs.Loading.{IsReplied, IsTold, LoadBegan, Loads, Tells};
+
+use crate::counting::Tally;
+use crate::player::MAX_MESSAGE;
+use crate::status::Status;
+use crate::writing::write;
+use answers::NoMemory;
+use arrayvec::ArrayVec;
+use attr_codec::Message;
+use book_core::{Book, Cut};
+use command_grammar::ReadLine;
+use outside::Sink;
+use route_values::{Addr, Caps, Family, Settings};
+use std::alloc::Global;
+use text_forms::{Line, put_ipv4};
+
+/// How many routes a load has at most.
+pub const MAX_ROUTES: u32 = 1_000_000;
+
+// The neighbour's settings: 127.0.0.1 from 192.0.2.9, of AS 65002 from AS 65001, in IPv4 alone.
+const SETTINGS: Settings = Settings {
+    peer: Addr::V4(0x7F00_0001),
+    local: Addr::V4(0xC000_0209),
+    port: 179,
+    local_as: 65_001,
+    peer_as: 65_002,
+    router_id: 0xC000_0209,
+    hold: 180,
+    ipv4: true,
+    ipv6: false,
+    ipv4_send: false,
+    ipv6_send: false,
+    ipv4_receive: false,
+    ipv6_receive: false,
+    refresh: true,
+    extended: false,
+};
+
+// The address of the first prefix, 10.0.0.0.
+const FIRST: u32 = 0x0A00_0000;
+
+// How many addresses a prefix has.
+const STEP: u32 = 256;
+
+// How many bytes a line has at most.
+const LINE_ROOM: usize = 64;
+
+// What a load uses for each event: the tally, and the buffer of messages.
+#[derive(Drop)]
+struct Desk {
+    alloc: Global,
+    tally: Tally,
+    message: Message,
+}
+
+/// Enters a large input into a newly opened book, and writes what was counted of it as nine lines.
+///
+/// A helper is started, the neighbour's session comes up, so many routes are announced, a line each, and all messages
+/// are cut; then each second one is withdrawn, from the first on, and all messages are cut again. The book is to be
+/// that of a configuration with the process `h`, and with one neighbour that hears it and has the settings of
+/// `load_settings`; of any other one the counts say what came of these events there.
+///
+/// With each status but `NoMemory` all events were entered. `WriteFault` says that the sink failed, which counted it.
+/// Nothing is written before all is counted.
+pub fn load<K: Sink>(alloc: Global, book: &mut Book, count: u32, output: &mut K) -> Status
+    requires { count ≤ max_routes }
+    ensures { (cfg : Sections) → Stands cfg [] book.old → Loads cfg count book.new
+        (sink_seen K.taken K.faults output.old) (sink_seen K.taken K.faults output.new) result }
+{
+    match load_all(alloc, book, count) {
+        Ok(text) => tell(&text, output),
+        Err(NoMemory) => Status::NoMemory,
+    }
+}
+
+// Writes the counts.
+fn tell<K: Sink>(text: &[u8], output: &mut K) -> Status
+    ensures { Tells text.now (sink_seen K.taken K.faults output.old)
+        (sink_seen K.taken K.faults output.new) result }
+{
+    match write(output, text) {
+        Ok(()) => Status::Ok,
+        Err(_) => Status::WriteFault,
+    }
+}
+
+// Enters all events, and answers the text of the counts.
+fn load_all(alloc: Global, book: &mut Book, count: u32) -> Result<Vec<u8>, NoMemory>
+    requires { count ≤ max_routes }
+    ensures { (cfg : Sections) → Stands cfg [] book.old → MatchResult result
+        (λ text. IsTold cfg count book.new text.items) (λ _. LoadBegan cfg count book.new) }
+{
+    let mut desk = new_desk(alloc)?;
+    begin(book);
+    enter_all(book, &mut desk, count)?;
+    desk.tally.text(alloc, count)
+}
+
+// A desk at which nothing was counted.
+fn new_desk(alloc: Global) -> Result<Desk, NoMemory>
+    ensures { IfOk result IsFresh }
+{
+    let message = Message::new(alloc, MAX_MESSAGE)?;
+    Ok(Desk {
+        alloc,
+        tally: Tally::new(alloc),
+        message,
+    })
+}
+
+// Starts the helper, and the session comes up.
+fn begin(book: &mut Book)
+    ensures { (cfg : Sections) → Stands cfg [] book.old → Begins cfg book.new }
+{
+    let _started = book.spawn(0, 0);
+    let _raised = book.up(0, &SETTINGS, caps());
+}
+
+// What the session comes up with.
+fn caps() -> Caps
+    ensures { result ≡ load_caps }
+{
+    Caps::none().with(Family::Ipv4, false)
+}
+
+// Enters what comes behind that.
+fn enter_all(book: &mut Book, desk: &mut Desk, count: u32) -> Result<(), NoMemory>
+    requires { count ≤ max_routes }
+    ensures { (cfg : Sections) (H : History) → IsCounted cfg H book.old desk.old
+        → Enters (IsEntered count) cfg H book.new desk.new result }
+{
+    announce_all(book, desk, count)?;
+    drain(book, desk)?;
+    withdraw_all(book, desk, (count + 1) / 2)?;
+    drain(book, desk)
+}
+
+// The first routes are announced, so many of them.
+fn announce_all(book: &mut Book, desk: &mut Desk, count: u32) -> Result<(), NoMemory>
+    requires { count ≤ max_routes }
+    ensures { (cfg : Sections) (H : History) → IsCounted cfg H book.old desk.old
+        → Enters (λ was now. Adding AddsAnnounce was (numbers_from 0 count) now) cfg H
+        book.new desk.new result }
+{
+    'routes: for i in 0..count {
+        announce(book, desk, i)?;
+    }
+    Ok(())
+}
+
+// The first routes of those with even numbers are withdrawn, so many of them.
+fn withdraw_all(book: &mut Book, desk: &mut Desk, count: u32) -> Result<(), NoMemory>
+    requires { 2 * count ≤ max_routes + 1 }
+    ensures { (cfg : Sections) (H : History) → IsCounted cfg H book.old desk.old
+        → Enters (λ was now. Adding AddsWithdraw was (numbers_from 0 count) now) cfg H
+        book.new desk.new result }
+{
+    'routes: for i in 0..count {
+        withdraw(book, desk, 2 * i)?;
+    }
+    Ok(())
+}
+
+// The route of a number is announced.
+fn announce(book: &mut Book, desk: &mut Desk, i: u32) -> Result<(), NoMemory>
+    requires { i < max_routes }
+    ensures { (cfg : Sections) (H : History) → IsCounted cfg H book.old desk.old
+        → Enters (IsReplied (announce_line i)) cfg H book.new desk.new result }
+{
+    let mut line = ArrayVec::new();
+    put(b"announce route ", &mut line);
+    put_prefix(i, &mut line);
+    put(b" next-hop 192.0.2.1", &mut line);
+    enter(book, desk, &line)
+}
+
+// The route of a number is withdrawn.
+fn withdraw(book: &mut Book, desk: &mut Desk, i: u32) -> Result<(), NoMemory>
+    requires { i < max_routes }
+    ensures { (cfg : Sections) (H : History) → IsCounted cfg H book.old desk.old
+        → Enters (IsReplied (withdraw_line i)) cfg H book.new desk.new result }
+{
+    let mut line = ArrayVec::new();
+    put(b"withdraw route ", &mut line);
+    put_prefix(i, &mut line);
+    enter(book, desk, &line)
+}
+
+// Puts the prefix of a number behind what a line has.
+fn put_prefix(i: u32, line: &mut ArrayVec<u8, LINE_ROOM>)
+    requires few { i < max_routes }
+    requires room { array_vec_len line.old + 18 ≤ LINE_ROOM }
+    ensures text { line.new.items ≡ line.old.items ++ load_prefix i }
+    ensures short { array_vec_len line.new ≤ array_vec_len line.old + 18 }
+{
+    put_ipv4(FIRST + STEP * i, line);
+    put(b"/24", line);
+}
+
+// Puts bytes for which there is room.
+fn put(piece: &[u8], line: &mut ArrayVec<u8, LINE_ROOM>)
+    requires { array_vec_len line.old + length piece.now ≤ LINE_ROOM }
+    ensures text { line.new.items ≡ line.old.items ++ piece.now }
+    ensures len { array_vec_len line.new ≡ array_vec_len line.old + length piece.now }
+{
+    let _ = line.try_extend_from_slice(piece);
+}
+
+// Enters a line of the helper, takes its reply, and counts it.
+fn enter(book: &mut Book, desk: &mut Desk, line: &[u8]) -> Result<(), NoMemory>
+    ensures { (cfg : Sections) (H : History) → IsCounted cfg H book.old desk.old
+        → Enters (IsReplied line.now) cfg H book.new desk.new result }
+{
+    let read = ReadLine::new(desk.alloc, Line::Text(line));
+    let given = book.line(0, 1, &read);
+    let _taken = book.take(0, 1);
+    desk.tally.line(given)
+}
+
+// Messages are cut until none comes.
+fn drain(book: &mut Book, desk: &mut Desk) -> Result<(), NoMemory>
+    ensures { (cfg : Sections) (H : History) → IsCounted cfg H book.old desk.old
+        → Enters AreCut cfg H book.new desk.new result }
+{
+    'cuts: for _ in 0..u64::MAX {
+        if !cut(book, desk)? {
+            return Ok(());
+        }
+    }
+    Err(NoMemory)
+}
+
+// Cuts once, and counts a message. Whether one came.
+fn cut(book: &mut Book, desk: &mut Desk) -> Result<bool, NoMemory>
+    ensures { (cfg : Sections) (H : History) → IsCounted cfg H book.old desk.old
+        → Cuts cfg H book.new desk.new result }
+{
+    desk.message.clear();
+    match book.cut(0, &mut desk.message) {
+        Cut::Message { .. } => {
+            desk.tally.message(desk.alloc, desk.message.bytes())?;
+            Ok(true)
+        }
+        Cut::Down | Cut::Reset { .. } | Cut::Nothing => Ok(false),
+    }
+}
