@@ -2,13 +2,13 @@
 use Rattle.std.specs.Prelude.{ℕ, ◌≡◌, ◌+◌, ⊤, List, [], ◌++◌, count_by, Option, Some, None, Result, Ok, Err}
 use Rattle.update_grammar.specs.declared.effect.Effect.{Effect}
 use Rattle.script_play.specs.declared.counting.Tally.{Tally}
-use Rattle.script_play.specs.Loads.{is_gone, is_here}
-use Rattle.script_play.specs.Loading.{AreLeftAt}
+use Rattle.script_play.specs.Loads.{Counts, is_gone, is_here}
+use Rattle.script_play.specs.Standing.{AreLeftAt}
 
--- effects are these, and none where there are none
-abbrev pub AreSaid : List Effect → Option (List Effect) → Type 0
-AreSaid effects None = effects ≡ []
-AreSaid effects (Some those) = effects ≡ those
+-- the effects, if there are any
+abbrev pub effects_of : Option (List Effect) → List Effect
+effects_of None = []
+effects_of (Some effects) = effects
 
 -- effects were counted behind others, and nothing else
 pub record TookEffects (effects : List Effect) (was now : Tally) : Type 0 where
@@ -25,3 +25,17 @@ pub record TookEffects (effects : List Effect) (was now : Tally) : Type 0 where
 abbrev pub TakesEffects : {E : Type 0} → List Effect → Tally → Tally → Result (Unit {0}) E → Type 0
 TakesEffects effects was now (Ok _) = TookEffects effects was now
 TakesEffects effects was now (Err _) = ⊤
+
+-- the counts that a tally tells, where so many routes were asked for and so many are left
+abbrev pub counts_told : ℕ → Tally → ℕ → Counts
+counts_told count tally left = record {
+  routes = count;
+  lines = tally.lines;
+  done = tally.done;
+  error = tally.errors;
+  messages = tally.messages;
+  bytes = tally.bytes;
+  announced = tally.announced;
+  withdrawn = tally.withdrawn;
+  left = left;
+}

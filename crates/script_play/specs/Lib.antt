@@ -3,6 +3,7 @@ pub mod Writing
 pub mod Player
 pub mod Entering
 pub mod Streams
+pub mod Standing
 pub mod Loads
 pub mod Loading
 pub mod Counting

@@ -1,13 +1,8 @@
 -- What loading leaves: how far it came, what it counted, and what it wrote.
-use Rattle.std.specs.Prelude.{ℕ, ◌≡◌, Bool, true, false, is_some, List, [], ◌∷◌, ◌++◌, length, count_by, Result, Ok, Err}
+use Rattle.std.specs.Prelude.{ℕ, ◌≡◌, Bool, List, [], ◌∷◌, ◌++◌, length, count_by, Result, Ok, Err}
 use Rattle.std.specs.List.{sum_by}
-use Rattle.std.specs.Set.{is_member}
 use Rattle.outside.specs.Seen.{SinkSeen}
 use Rattle.outside.specs.Told.{CountsOne, Grows}
-use Rattle.route_values.specs.declared.key.Key.{Key}
-use Rattle.route_values.specs.Key.{same_key}
-use Rattle.update_grammar.specs.declared.effect.Effect.{Effect}
-use Rattle.update_grammar.specs.Net.{net}
 use Rattle.config_model.specs.Sections.{Sections}
 use Rattle.book_history.specs.declared.outcomes.Cut.{Cut}
 use Rattle.book_history.specs.declared.outcomes.Cut.TheVariants as cut
@@ -27,11 +22,8 @@ use Rattle.script_play.specs.Loads.{IsLoad, IsLoadPart, counts_of, counts_text, 
 use Rattle.script_play.specs.Loads.{is_here, messages_in, verdicts_in, begun}
 use Rattle.script_play.specs.Loads.{AddsReplied}
 use Rattle.script_play.specs.Player.{max_message}
+use Rattle.script_play.specs.Standing.{AreLeftAt}
 use Rattle.script_play.specs.Writing.{Broke, Wrote}
-
--- these keys are those at which effects leave something
-abbrev pub AreLeftAt : List Effect → List Key → Type 0
-AreLeftAt effects keys = (key : Key) → is_member same_key keys key ≡ is_some (net effects key)
 
 -- a tally counts a history
 pub record Tallies (H : History) (tally : Tally) : Type 0 where
@@ -46,7 +38,7 @@ pub record Tallies (H : History) (tally : Tally) : Type 0 where
 
 -- a book stands for a history, and it was counted
 pub record IsCounted (cfg : Sections) (H : History) (book : Book) (desk : Desk) : Type 0 where
-  pub book : Stands cfg H book
+  pub stands : Stands cfg H book
   pub tally : Tallies H desk.tally
   pub room : desk.message.room ≡ max_message
 

@@ -1,17 +1,17 @@
 //! What is counted of a load.
-ghost use Rattle.std.specs.Prelude.{◌≡◌, ◌+◌, ◌++◌, ◌∷◌, ℕ, Bool, List, [], Result, IfOk, OnOk, length};
+ghost use Rattle.std.specs.Prelude.{◌≡◌, ◌+◌, ◌≤◌, ◌++◌, ◌∷◌, ℕ, Bool, [], Result, IfOk, OnOk, length};
 ghost use Rattle.std.specs.List.{flat_map};
 ghost use Rattle.text_forms.specs.Lines.{Line};
 ghost use Rattle.route_grammar.specs.declared.fault.ReadFault.{ReadFault};
 ghost use Rattle.command_grammar.specs.declared.command.Command.{Command};
-ghost use Rattle.update_grammar.specs.declared.effect.Effect.{Effect};
-ghost use Rattle.update_grammar.specs.Update.{gone_all, here_all};
+ghost use Rattle.update_grammar.specs.Update.{gone_all};
+ghost use Rattle.update_grammar.specs.Written.{body_of};
 ghost use Rattle.update_codec.specs.Effects.{announced_effects};
 ghost use Rattle.peer_history.specs.Messages.{said};
 ghost use Rattle.book_history.specs.declared.outcomes.Cut.TheVariants as cut;
 ghost use Rattle.book_history.specs.Entries.{History};
 ghost use Rattle.book_history.specs.Entries.Entry.{LineEntered, MessageCut};
-ghost use Rattle.script_play.specs.Counting.{AreSaid, TakesEffects};
+ghost use Rattle.script_play.specs.Counting.{TakesEffects, counts_told, effects_of};
 ghost use Rattle.script_play.specs.Loads.{count_line, counts_of, counts_text, load_caps};
 ghost use Rattle.script_play.specs.Loading.{Tallies};
 
@@ -70,11 +70,16 @@ impl Tally {
     {
         self.lines = more(self.lines, 1)?;
         match given {
-            Verdict::Done => self.done = more(self.done, 1)?,
-            Verdict::Error(_) => self.errors = more(self.errors, 1)?,
-            Verdict::Ended | Verdict::Busy => {}
+            Verdict::Done => {
+                self.done = more(self.done, 1)?;
+                Ok(())
+            }
+            Verdict::Error(_) => {
+                self.errors = more(self.errors, 1)?;
+                Ok(())
+            }
+            Verdict::Ended | Verdict::Busy => Ok(()),
         }
-        Ok(())
     }
 
     /// Counts a message, and what it says by the grammar.
@@ -84,16 +89,23 @@ impl Tally {
     {
         self.messages = more(self.messages, 1)?;
         self.bytes = more(self.bytes, bytes.len())?;
-        match said(alloc, bytes)? {
-            Some(effects) => self.effects(&effects),
-            None => Ok(()),
-        }
+        let said = said(alloc, bytes)?;
+        self.said(&said)
     }
 
     /// The counts, where so many routes were asked for.
     pub fn text(&self, alloc: Global, count: u32) -> Result<Vec<u8>, NoMemory>
         ensures { IfOk result (λ text. (H : History) → Tallies H self.now
             → text.items ≡ counts_text (counts_of count H)) }
+    {
+        let left = self.left.len();
+        self.told(alloc, count, left as u64)
+    }
+
+    // The text of the counts, where so many routes are left.
+    fn told(&self, alloc: Global, count: u32, left: u64) -> Result<Vec<u8>, NoMemory>
+        ensures { IfOk result (λ text.
+            text.items ≡ counts_text (counts_told count self.now left)) }
     {
         let mut text = Vec::new(alloc);
         put_count(b"routes", u64::from(count), &mut text)?;
@@ -104,8 +116,18 @@ impl Tally {
         put_count(b"bytes", self.bytes, &mut text)?;
         put_count(b"announced", self.announced, &mut text)?;
         put_count(b"withdrawn", self.withdrawn, &mut text)?;
-        put_count(b"left", self.left.len() as u64, &mut text)?;
+        put_count(b"left", left, &mut text)?;
         Ok(text)
+    }
+
+    // Counts what a message says, if it says anything.
+    fn said(&mut self, said: &Option<Effects>) -> Result<(), NoMemory>
+        ensures { TakesEffects (effects_of said.now) self.old self.new result }
+    {
+        match said {
+            Some(effects) => self.effects(effects),
+            None => Ok(()),
+        }
     }
 
     // Counts the effects of a message.
@@ -122,9 +144,7 @@ impl Tally {
         ensures { TakesEffects (gone_all keys.now) self.old self.new result }
     {
         self.withdrawn = more(self.withdrawn, keys.len())?;
-        'keys: for key in keys {
-            self.left.take(key);
-        }
+        self.left.withdraw(keys);
         Ok(())
     }
 
@@ -142,12 +162,8 @@ impl Tally {
     fn announced(&mut self, announced: &Announced) -> Result<(), NoMemory>
         ensures { TakesEffects (announced_effects announced.now) self.old self.new result }
     {
-        let keys = announced.keys.as_slice();
-        self.announced = more(self.announced, keys.len())?;
-        'keys: for key in keys {
-            self.left.put(*key)?;
-        }
-        Ok(())
+        self.announced = more(self.announced, announced.keys.len())?;
+        self.left.announce(announced)
     }
 }
 
@@ -163,7 +179,7 @@ fn more(count: u64, by: usize) -> Result<u64, NoMemory>
 
 // The effects of a message. One that says nothing by the grammar has none.
 fn said(alloc: Global, bytes: &[u8]) -> Result<Option<Effects>, NoMemory>
-    ensures { IfOk result (AreSaid (said load_caps bytes.now)) }
+    ensures { IfOk result (λ found. effects_of found ≡ said load_caps bytes.now) }
 {
     let body = body_of(bytes);
     let caps = Caps::none().with(Family::Ipv4, false);

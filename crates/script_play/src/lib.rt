@@ -21,7 +21,6 @@ mod standing;
 mod status;
 mod writing;
 
-pub use configured::configured;
 pub use loading::load;
 pub use playing::play;
 pub use status::{STATUS_ROOM, Status};

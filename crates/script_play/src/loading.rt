@@ -19,7 +19,7 @@ use crate::writing::write;
 use answers::NoMemory;
 use arrayvec::ArrayVec;
 use attr_codec::Message;
-use book_core::{Book, Cut};
+use book_core::{Book, Cut, Spawn, Take};
 use command_grammar::ReadLine;
 use outside::Sink;
 use route_values::{Addr, Caps, Family, Settings};
@@ -124,7 +124,7 @@ fn new_desk(alloc: Global) -> Result<Desk, NoMemory>
 fn begin(book: &mut Book)
     ensures { (cfg : Sections) → Stands cfg [] book.old → Begins cfg book.new }
 {
-    let _started = book.spawn(0, 0);
+    end_start(book.spawn(0, 0));
     let _raised = book.up(0, &SETTINGS, caps());
 }
 
@@ -225,8 +225,24 @@ fn enter(book: &mut Book, desk: &mut Desk, line: &[u8]) -> Result<(), NoMemory>
 {
     let read = ReadLine::new(desk.alloc, Line::Text(line));
     let given = book.line(0, 1, &read);
-    let _taken = book.take(0, 1);
+    end_take(book.take(0, 1));
     desk.tally.line(given)
+}
+
+// Nothing more is asked of how a helper was started.
+fn end_start(given: Spawn) {
+    match given {
+        Spawn::Stopping | Spawn::Absent | Spawn::Running | Spawn::GiveUp => {}
+        Spawn::Go { inc: _, run: _run } => {}
+    }
+}
+
+// Nothing more is asked of replies.
+fn end_take(given: Take) {
+    match given {
+        Take::Ended | Take::Nothing => {}
+        Take::Replies(_replies) => {}
+    }
 }
 
 // Messages are cut until none comes.

@@ -1,15 +1,20 @@
 //! The keys that stand at a neighbour.
 ghost use Rattle.std.specs.List.{IsDistinct};
-ghost use Rattle.std.specs.Prelude.{◌≡◌, ◌&&◌, ◌||◌, not, [], OnOk, length};
+ghost use Rattle.std.specs.Prelude.{◌≡◌, ◌++◌, true, false, List, [], OnOk, length, if◌then◌else◌};
 ghost use Rattle.std.specs.Set.{is_member};
 ghost use Rattle.route_values.specs.declared.key.Key.{Key as ValueOfKey};
 ghost use Rattle.route_values.specs.Key.{same_key};
+ghost use Rattle.update_grammar.specs.declared.effect.Effect.{Effect};
+ghost use Rattle.update_grammar.specs.Update.{gone_all};
+ghost use Rattle.update_codec.specs.Effects.{announced_effects};
+ghost use Rattle.script_play.specs.Standing.{AreLeftAt};
 
 use answers::NoMemory;
 use indexmap::IndexSet;
 use route_values::Key;
 use std::alloc::Global;
 use std::marker::Model;
+use update_codec::Announced;
 
 /// The keys of the routes that a neighbour has by the messages so far. Contracts see a list of keys.
 ///
@@ -47,19 +52,41 @@ impl Standing {
         self.keys.len()
     }
 
-    /// A key stands from now on.
-    pub fn put(&mut self, key: Key) -> Result<(), NoMemory>
+    /// Keys that are withdrawn stand no longer.
+    pub fn withdraw(&mut self, keys: &[Key])
+        ensures { (before : List Effect) → AreLeftAt before self.old
+            → AreLeftAt (before ++ gone_all keys.now) self.new }
+    {
+        'keys: for key in keys {
+            self.take(key);
+        }
+    }
+
+    /// Keys that are announced stand from now on.
+    pub fn announce(&mut self, announced: &Announced) -> Result<(), NoMemory>
+        ensures { OnOk result ((before : List Effect) → AreLeftAt before self.old
+            → AreLeftAt (before ++ announced_effects announced.now) self.new) }
+    {
+        let keys = announced.keys.as_slice();
+        'keys: for key in keys {
+            self.put(*key)?;
+        }
+        Ok(())
+    }
+
+    // A key stands from now on.
+    fn put(&mut self, key: Key) -> Result<(), NoMemory>
         ensures { OnOk result ((other : ValueOfKey) → is_member same_key self.new other
-            ≡ (same_key key other || is_member same_key self.old other)) }
+            ≡ (if same_key key other then true else is_member same_key self.old other)) }
     {
         self.keys.insert(key)?;
         Ok(())
     }
 
-    /// A key stands no longer.
-    pub fn take(&mut self, key: &Key)
+    // A key stands no longer.
+    fn take(&mut self, key: &Key)
         ensures { (other : ValueOfKey) → is_member same_key self.new other
-            ≡ (not (same_key key.now other) && is_member same_key self.old other) }
+            ≡ (if same_key key.now other then false else is_member same_key self.old other) }
     {
         self.keys.swap_remove(key);
     }

@@ -1,0 +1,7 @@
+use Rattle.std.proofs.Common.{refl}
+use Rattle.script_play.proofs.CountingLemmas.{took_here}
+use Rattle.script_play.proofs.counting.Tally.announced.Goals as goal
+
+pub returns : goal.returns
+returns c =
+    took_here c.args.announced.now c.args.self.now _ c.announce.result refl refl refl refl refl ? refl c.announce.ensures
