@@ -8,9 +8,6 @@ use Rattle.std.proofs.lemmas.Grind.{flat_map-append}
 use Rattle.std.proofs.lemmas.List.{take_more, length-append}
 use Rattle.std.proofs.lemmas.List.Sums.{sum_by-append, sum_by-cons}
 use Rattle.std.proofs.lemmas.Map.Made.{is_member-filter, length-from_keys}
-use Rattle.text_forms.specs.Lines.{Line}
-use Rattle.route_grammar.specs.declared.fault.ReadFault.{ReadFault}
-use Rattle.command_grammar.specs.declared.command.Command.{Command}
 use Rattle.route_values.specs.declared.attrs.WireAttrs.{WireAttrs}
 use Rattle.route_values.specs.declared.key.Key.{Key}
 use Rattle.route_values.specs.Key.{same_key}
@@ -25,12 +22,11 @@ use Rattle.update_codec.specs.declared.effects.Announced.{Announced}
 use Rattle.update_codec.specs.Effects.{announced_effects}
 use Rattle.peer_history.specs.Messages.{said}
 use Rattle.book_history.specs.declared.outcomes.Cut.TheVariants as cut
-use Rattle.book_history.specs.declared.outcomes.Verdict.{Verdict}
 use Rattle.book_history.specs.Entries.{History}
-use Rattle.book_history.specs.Entries.Entry.{LineEntered, MessageCut}
+use Rattle.book_history.specs.Entries.Entry.{MessageCut}
 use Rattle.script_play.specs.declared.counting.Tally.{Tally}
 use Rattle.script_play.specs.Counting.{TakesEffects, TookEffects, counts_told}
-use Rattle.script_play.specs.Loads.{counts_of, effects_in, is_done, is_error, is_gone, is_here, keys_left, load_caps}
+use Rattle.script_play.specs.Loads.{counts_of, effects_in, is_gone, is_here, keys_left, load_caps}
 use Rattle.script_play.specs.Loads.{counts_text, messages_in, routes_left, Counts}
 use Rattle.script_play.specs.Loading.{Tallies}
 use Rattle.script_play.specs.Standing.{AreLeftAt}
@@ -108,29 +104,9 @@ counts_same count H tally left distinct is t = λ i. record {
     all : left ≡ routes_left (effects_in H)
     all = is ∙ left_count (effects_in H) tally.left distinct t.left
 
--- ---- lines
-
 counted_first : {A : Type 0} (test : A → Bool) (x : A) (xs : List A)
     → count_by test (x ∷ xs) ≡ count_by test xs + (if test x then 1 else 0)
 counted_first test x xs = omega (arith, sum_by-cons (λ y. cond (test y) 1 0) x xs)
-
--- a line more
-pub line_counted : (H : History) (h inc : ℕ) (text : Line) (reading : Result Command ReadFault) (given : Verdict)
-    (was now : Tally) → Tallies H was → now.lines ≡ was.lines + 1
-    → now.done ≡ was.done + (if is_done given then 1 else 0)
-    → now.errors ≡ was.errors + (if is_error given then 1 else 0) → now.messages ≡ was.messages
-    → now.bytes ≡ was.bytes → now.announced ≡ was.announced → now.withdrawn ≡ was.withdrawn → now.left ≡ was.left
-    → Tallies (LineEntered h inc text reading given ∷ H) now
-line_counted H h inc text reading given was now t lines done errors messages bytes announced withdrawn left = record {
-  lines = omega (arith, lines, t.lines);
-  done = done ∙ ap (λ n. n + (if is_done given then 1 else 0)) t.done ∙ sym (counted_first is_done given _);
-  errors = errors ∙ ap (λ n. n + (if is_error given then 1 else 0)) t.errors ∙ sym (counted_first is_error given _);
-  messages = messages ∙ t.messages;
-  bytes = bytes ∙ t.bytes;
-  announced = announced ∙ t.announced;
-  withdrawn = withdrawn ∙ t.withdrawn;
-  left = subst (AreLeftAt (effects_in H)) (sym left) t.left;
-}
 
 -- ---- effects
 

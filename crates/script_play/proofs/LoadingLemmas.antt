@@ -387,30 +387,32 @@ same_counts H taken tally t = record {
 }
 
 -- a line was entered and its reply taken, and the line is counted by a call
-pub line_entered : {E : Type 0} (cfg : Sections) (H : History) (text : List ℕ) (reading : Result Command ReadFault)
-    (given : Verdict) (taken : Take) (book : Book) (at desk : Desk) (result : Result (Unit {0}) E)
-    → desk.message.room ≡ max_message → Tallies H at.tally
-    → Stands cfg (RepliesTaken 0 1 taken ∷ LineEntered 0 1 (Text text) reading given ∷ H) book
-    → OnOk result ((before : History) (h inc : ℕ) (line : Line) (said : Result Command ReadFault)
-    → Tallies before at.tally → Tallies (LineEntered h inc line said given ∷ before) desk.tally)
+pub line_entered : {E : Type 0} (cfg : Sections) (H : History) (text : List ℕ) (line : Line)
+    (reading : Result Command ReadFault) (given : Verdict) (taken : Take) (book : Book) (at desk : Desk)
+    (result : Result (Unit {0}) E) → line ≡ Text text → desk.message.room ≡ max_message → Tallies H at.tally
+    → Stands cfg (RepliesTaken 0 1 taken ∷ LineEntered 0 1 line reading given ∷ H) book
+    → OnOk result ((before : History) (h inc : ℕ) (other : Line) (said : Result Command ReadFault)
+    → Tallies before at.tally → Tallies (LineEntered h inc other said given ∷ before) desk.tally)
     → Enters (IsReplied text) cfg H book desk result
-line_entered cfg H text reading given taken book at desk (Ok done) room counted stands next = record {
+line_entered cfg H text line reading given taken book at desk (Ok done) is room counted stands next = record {
   after = RepliesTaken 0 1 taken ∷ LineEntered 0 1 (Text text) reading given ∷ H;
   leads = (RepliesTaken 0 1 taken ∷ LineEntered 0 1 (Text text) reading given ∷ [],
       (reading, given, taken, refl), refl);
   counted = record {
-    stands = stands;
+    stands = subst (λ (l : Line). Stands cfg (RepliesTaken 0 1 taken ∷ LineEntered 0 1 l reading given ∷ H) book) is
+        stands;
     tally = same_counts (LineEntered 0 1 (Text text) reading given ∷ H) taken desk.tally
         (next H 0 1 (Text text) reading counted);
     room = room;
   };
 }
-line_entered cfg H text reading given taken book at desk (Err because) room counted stands next = record {
+line_entered cfg H text line reading given taken book at desk (Err because) is room counted stands next = record {
   after = RepliesTaken 0 1 taken ∷ LineEntered 0 1 (Text text) reading given ∷ H;
   more = [];
   leads = (RepliesTaken 0 1 taken ∷ LineEntered 0 1 (Text text) reading given ∷ [],
       (reading, given, taken, refl), refl);
-  stands = stands;
+  stands = subst (λ (l : Line). Stands cfg (RepliesTaken 0 1 taken ∷ LineEntered 0 1 l reading given ∷ H) book) is
+      stands;
 }
 
 -- the buffer takes every message of a session
@@ -423,50 +425,29 @@ room_for_cuts book n message is = λ peering caps at up.
     by_size true = omega arith
     by_size false = omega arith
 
--- a cut that made no message isn't counted
-pub none_cut : (cfg : Sections) (H : History) (bytes : List ℕ) (given : Cut) (book : Book) (desk : Desk)
-    → is_message given ≡ false → Stands cfg (MessageCut 0 bytes given ∷ H) book → Tallies H desk.tally
-    → desk.message.room ≡ max_message → IsCut false cfg H book desk
-none_cut cfg H bytes given book desk none stands t room = record {
+-- a message was cut
+pub message_alone : (cfg : Sections) (H : History) (bytes out : List ℕ) (given : Cut) (last : Bool) (book : Book)
+    → given ≡ cut.Message last → bytes ≡ out → Stands cfg (MessageCut 0 out given ∷ H) book
+    → Stands cfg (MessageCut 0 bytes (cut.Message last) ∷ H) book
+message_alone cfg H bytes out given last book is same stands =
+    subst (λ (text : List ℕ). Stands cfg (MessageCut 0 text (cut.Message last) ∷ H) book) (sym same)
+    (subst (λ (answer : Cut). Stands cfg (MessageCut 0 out answer ∷ H) book) is stands)
+
+-- and was counted
+pub message_cut : (cfg : Sections) (H : History) (bytes out : List ℕ) (given : Cut) (last : Bool) (book : Book)
+    (desk : Desk) → given ≡ cut.Message last → bytes ≡ out → Stands cfg (MessageCut 0 out given ∷ H) book
+    → Tallies (MessageCut 0 bytes (cut.Message last) ∷ H) desk.tally → desk.message.room ≡ max_message
+    → IsCut true cfg H book desk
+message_cut cfg H bytes out given last book desk is same stands counted room = record {
   bytes = bytes;
-  given = given;
-  answer = none;
-  counted = record { stands = stands; tally = uncounted H bytes given desk.tally none t; room = room };
+  given = cut.Message last;
+  answer = refl;
+  counted = record {
+    stands = message_alone cfg H bytes out given last book is same stands;
+    tally = counted;
+    room = room;
+  };
 }
-  where
-    uncounted : (H : History) (bytes : List ℕ) (given : Cut) (tally : Tally) → is_message given ≡ false
-        → Tallies H tally → Tallies (MessageCut 0 bytes given ∷ H) tally
-    uncounted H bytes (cut.Message last) tally is t = absurd (let no_way : true ≡ false = is in cc)
-    uncounted H bytes cut.Down tally is t = record {
-      lines = t.lines;
-      done = t.done;
-      errors = t.errors;
-      messages = t.messages;
-      bytes = t.bytes;
-      announced = t.announced;
-      withdrawn = t.withdrawn;
-      left = t.left;
-    }
-    uncounted H bytes (cut.Reset code sub) tally is t = record {
-      lines = t.lines;
-      done = t.done;
-      errors = t.errors;
-      messages = t.messages;
-      bytes = t.bytes;
-      announced = t.announced;
-      withdrawn = t.withdrawn;
-      left = t.left;
-    }
-    uncounted H bytes cut.Nothing tally is t = record {
-      lines = t.lines;
-      done = t.done;
-      errors = t.errors;
-      messages = t.messages;
-      bytes = t.bytes;
-      announced = t.announced;
-      withdrawn = t.withdrawn;
-      left = t.left;
-    }
 
 -- ---- the start, and the end
 

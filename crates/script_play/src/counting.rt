@@ -90,7 +90,7 @@ impl Tally {
         self.messages = more(self.messages, 1)?;
         self.bytes = more(self.bytes, bytes.len())?;
         let said = said(alloc, bytes)?;
-        self.said(&said)
+        self.count_said(&said)
     }
 
     /// The counts, where so many routes were asked for.
@@ -121,7 +121,7 @@ impl Tally {
     }
 
     // Counts what a message says, if it says anything.
-    fn said(&mut self, said: &Option<Effects>) -> Result<(), NoMemory>
+    fn count_said(&mut self, said: &Option<Effects>) -> Result<(), NoMemory>
         ensures { TakesEffects (effects_of said.now) self.old self.new result }
     {
         match said {

@@ -179,10 +179,7 @@ fn announce(book: &mut Book, desk: &mut Desk, i: u32) -> Result<(), NoMemory>
     ensures { (cfg : Sections) (H : History) → IsCounted cfg H book.old desk.old
         → Enters (IsReplied (announce_line i)) cfg H book.new desk.new result }
 {
-    let mut line = ArrayVec::new();
-    put(b"announce route ", &mut line);
-    put_prefix(i, &mut line);
-    put(b" next-hop 192.0.2.1", &mut line);
+    let line = announce_line(i);
     enter(book, desk, &line)
 }
 
@@ -192,10 +189,31 @@ fn withdraw(book: &mut Book, desk: &mut Desk, i: u32) -> Result<(), NoMemory>
     ensures { (cfg : Sections) (H : History) → IsCounted cfg H book.old desk.old
         → Enters (IsReplied (withdraw_line i)) cfg H book.new desk.new result }
 {
+    let line = withdraw_line(i);
+    enter(book, desk, &line)
+}
+
+// The line that announces the route of a number.
+fn announce_line(i: u32) -> ArrayVec<u8, LINE_ROOM>
+    requires { i < max_routes }
+    ensures { result.items ≡ announce_line i }
+{
+    let mut line = ArrayVec::new();
+    put(b"announce route ", &mut line);
+    put_prefix(i, &mut line);
+    put(b" next-hop 192.0.2.1", &mut line);
+    line
+}
+
+// The line that withdraws it.
+fn withdraw_line(i: u32) -> ArrayVec<u8, LINE_ROOM>
+    requires { i < max_routes }
+    ensures { result.items ≡ withdraw_line i }
+{
     let mut line = ArrayVec::new();
     put(b"withdraw route ", &mut line);
     put_prefix(i, &mut line);
-    enter(book, desk, &line)
+    line
 }
 
 // Puts the prefix of a number behind what a line has.

@@ -7,5 +7,5 @@ use Rattle.script_play.proofs.counting.Tally.effects.Goals as goal
 pub returns : goal.returns
 returns c =
     takes_both (gone_all c.parts-parts.result.gone.now) (flat_map announced_effects c.parts-parts.result.here.now)
-    c.args.effects.now c.args.self.now c.in_ok-gone.new.self c.here.new.self c.here.result c.parts-parts.ensures
+    c.args.effects.now c.args.self.now c.gone.new.self c.here.new.self c.here.result c.parts-parts.ensures
     c.in_ok-gone.ensures c.here.ensures

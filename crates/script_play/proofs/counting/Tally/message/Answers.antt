@@ -4,5 +4,5 @@ use Rattle.script_play.proofs.counting.Tally.message.Goals as goal
 
 pub returns : goal.returns
 returns c =
-    message_counted c.args.bytes.now _ c.args.self.now _ c.said.new.self c.said.result c.in_ok-said.ensures
-    c.in_ok-more.ensures c.in_ok-more-2.ensures refl refl refl refl refl refl c.said.ensures
+    message_counted c.args.bytes.now _ c.args.self.now _ c.count_said.new.self c.count_said.result c.in_ok-said.ensures
+    c.in_ok-self.ensures c.in_ok-self-2.ensures refl refl refl refl refl refl c.count_said.ensures
