@@ -1,7 +1,7 @@
 -- What a load enters, and the first of it.
-use Rattle.std.proofs.Common.{◌≡◌, ℕ, ◌+◌, ◌-◌, ◌<◌, ◌≤◌, zero, suc, Bool, true, false, List, [], ◌∷◌, ◌++◌, length, Ok, Err}
+use Rattle.std.proofs.Common.{◌≡◌, ℕ, ◌+◌, ◌-◌, ◌*◌, ◌<◌, ◌≤◌, zero, suc, Bool, true, false, List, [], ◌∷◌, ◌++◌, length, Ok, Err}
 use Rattle.std.proofs.Common.{refl, sym, ap, ◌∙◌, subst, arith, append_assoc, append-nil}
-use Rattle.std.specs.Prelude.{Result, IfOk, MatchResult, OnOk, if◌then◌else◌}
+use Rattle.std.specs.Prelude.{Result, IfOk, IsErr, MatchResult, OnOk, if◌then◌else◌}
 use Rattle.std.specs.List.{AllByRecursion}
 use Rattle.text_forms.specs.Lines.{Line, Text}
 use Rattle.attr_codec.specs.Buffer.{Buffer}
@@ -32,12 +32,11 @@ use Rattle.text_history.specs.Adding.{Adding}
 use Rattle.text_history.specs.Plays.{IsDrain, IsMessageOf, is_message}
 use Rattle.text_history.proofs.AddingLemmas.{adding_more}
 use Rattle.script_play.specs.declared.counting.Tally.{Tally}
-use Rattle.script_play.specs.declared.loading.Desk.{Desk}
 use Rattle.script_play.specs.declared.status.Status.{Status}
 use Rattle.script_play.specs.declared.status.Status.TheVariants as status
 use Rattle.script_play.specs.Loads.{AddsAnnounce, AddsReplied, AddsWithdraw, AreCut, IsEntered, announce_line, begun}
 use Rattle.script_play.specs.Loads.{counts_of, counts_text, evens_below, withdraw_line}
-use Rattle.script_play.specs.Loading.{Began, Begins, Enters, Entered, IsCounted, IsCut, IsCutAlone, IsFresh, IsReplied}
+use Rattle.script_play.specs.Loading.{Began, Begins, Cuts, Enters, Entered, IsCounted, IsCut, IsCutAlone, IsReplied}
 use Rattle.script_play.specs.Loading.{IsTold, LoadBegan, Loads, Tallies, Tells}
 use Rattle.script_play.specs.Player.{max_message}
 
@@ -133,13 +132,13 @@ module _ (make : ℕ → List ℕ) where
       (adding_more Adds H mid added (numbers_from 0 i) i says adds))
 
   module _ (cfg : Sections) (H : History) where
-    pub none_said : (book : Book) (desk : Desk) → IsCounted cfg H book desk → Entered (SaysFirst 0) cfg H book desk
-    none_said book desk counted = record { after = H; leads = refl; counted = counted }
+    pub none_said : (book : Book) (tally : Tally) → IsCounted cfg H book tally → Entered (SaysFirst 0) cfg H book tally
+    none_said book tally counted = record { after = H; leads = refl; counted = counted }
 
-    pub one_said : (i : ℕ) (mid book : Book) (at desk : Desk) → Entered (SaysFirst i) cfg H mid at
-        → ((before : History) → IsCounted cfg before mid at → Entered (IsReplied (make i)) cfg before book desk)
-        → Entered (SaysFirst (i + 1)) cfg H book desk
-    one_said i mid book at desk entered next =
+    pub one_said : (i : ℕ) (mid book : Book) (at tally : Tally) → Entered (SaysFirst i) cfg H mid at
+        → ((before : History) → IsCounted cfg before mid at → Entered (IsReplied (make i)) cfg before book tally)
+        → Entered (SaysFirst (i + 1)) cfg H book tally
+    one_said i mid book at tally entered next =
         let one = next entered.after entered.counted in
         record {
           after = one.after;
@@ -147,7 +146,7 @@ module _ (make : ℕ → List ℕ) where
           counted = one.counted;
         }
 
-    pub one_begun : (i count : ℕ) (mid book : Book) (at : Desk) → i < count → Entered (SaysFirst i) cfg H mid at
+    pub one_begun : (i count : ℕ) (mid book : Book) (at : Tally) → i < count → Entered (SaysFirst i) cfg H mid at
         → ((before : History) → IsCounted cfg before mid at → Began (IsReplied (make i)) cfg before book)
         → Began (SaysFirst count) cfg H book
     one_begun i count mid book at below entered next =
@@ -168,10 +167,10 @@ module _ (make : ℕ → List ℕ) where
 -- ---- cuts
 
 -- messages were cut, and are counted
-pub record IsDraining (cfg : Sections) (H : History) (book : Book) (desk : Desk) : Type 0 where
+pub record IsDraining (cfg : Sections) (H : History) (book : Book) (tally : Tally) : Type 0 where
   pub messages : History
   pub are : AllByRecursion (IsMessageOf 0) messages
-  pub counted : IsCounted cfg (messages ++ H) book desk
+  pub counted : IsCounted cfg (messages ++ H) book tally
 
 message_of : (bytes : List ℕ) (given : Cut) → is_message given ≡ true → IsMessageOf 0 (MessageCut 0 bytes given)
 message_of bytes (cut.Message last) is = record { bytes = bytes; last = last; entry_is = refl }
@@ -192,13 +191,13 @@ drained messages bytes given are none = record {
 }
 
 module _ (cfg : Sections) (H : History) where
-  pub draining_none : (book : Book) (desk : Desk) → IsCounted cfg H book desk → IsDraining cfg H book desk
-  draining_none book desk counted = record { messages = []; are = tt; counted = counted }
+  pub draining_none : (book : Book) (tally : Tally) → IsCounted cfg H book tally → IsDraining cfg H book tally
+  draining_none book tally counted = record { messages = []; are = tt; counted = counted }
 
-  pub draining_more : (mid book : Book) (at desk : Desk) (came : Bool) → came ≡ true → IsDraining cfg H mid at
-      → ((before : History) → IsCounted cfg before mid at → IsCut came cfg before book desk)
-      → IsDraining cfg H book desk
-  draining_more mid book at desk came so draining next =
+  pub draining_more : (mid book : Book) (at tally : Tally) (came : Bool) → came ≡ true → IsDraining cfg H mid at
+      → ((before : History) → IsCounted cfg before mid at → IsCut came cfg before book tally)
+      → IsDraining cfg H book tally
+  draining_more mid book at tally came so draining next =
       let one = next (draining.messages ++ H) draining.counted in
       record {
         messages = MessageCut 0 one.bytes one.given ∷ draining.messages;
@@ -206,10 +205,10 @@ module _ (cfg : Sections) (H : History) where
         counted = one.counted;
       }
 
-  pub draining_end : (mid book : Book) (at desk : Desk) (came : Bool) → came ≡ false → IsDraining cfg H mid at
-      → ((before : History) → IsCounted cfg before mid at → IsCut came cfg before book desk)
-      → Entered AreCut cfg H book desk
-  draining_end mid book at desk came so draining next =
+  pub draining_end : (mid book : Book) (at tally : Tally) (came : Bool) → came ≡ false → IsDraining cfg H mid at
+      → ((before : History) → IsCounted cfg before mid at → IsCut came cfg before book tally)
+      → Entered AreCut cfg H book tally
+  draining_end mid book at tally came so draining next =
       let one = next (draining.messages ++ H) draining.counted in
       let all : History = MessageCut 0 one.bytes one.given ∷ draining.messages in
       record {
@@ -228,17 +227,28 @@ module _ (cfg : Sections) (H : History) where
     stands = stands;
   }
 
-  pub draining_begun : (mid book : Book) (at : Desk) → IsDraining cfg H mid at
+  pub draining_begun : (mid book : Book) (at : Tally) → IsDraining cfg H mid at
       → ((before : History) → IsCounted cfg before mid at → IsCutAlone cfg before book) → Began AreCut cfg H book
   draining_begun mid book at draining next =
       let one = next (draining.messages ++ H) draining.counted in
       cuts_begun (MessageCut 0 one.bytes (cut.Message one.last) ∷ draining.messages) book
       (message_of one.bytes (cut.Message one.last) refl, draining.are) one.stands
 
-  pub draining_left : (book : Book) (desk : Desk) → IsDraining cfg H book desk → Began AreCut cfg H book
-  draining_left book desk draining = cuts_begun draining.messages book draining.are draining.counted.stands
+  -- nothing was cut
+  pub draining_unbegun : (book : Book) (tally : Tally) → IsCounted cfg H book tally → Began AreCut cfg H book
+  draining_unbegun book tally counted = cuts_begun [] book tt counted.stands
+
+  pub draining_left : (book : Book) (tally : Tally) → IsDraining cfg H book tally → Began AreCut cfg H book
+  draining_left book tally draining = cuts_begun draining.messages book draining.are draining.counted.stands
 
 -- ---- one step behind the other
+
+-- what began is what a call leaves that answers want of memory
+pub began_err : {E : Type 0} (Leads : History → History → Type 0) (cfg : Sections) (H : History) (book : Book)
+    (tally : Tally) (result : Result (Unit {0}) E) → IsErr result → Began Leads cfg H book
+    → Enters Leads cfg H book tally result
+began_err Leads cfg H book tally (Ok done) failed began = absurd failed
+began_err Leads cfg H book tally (Err because) failed began = began
 
 module _ (First Next : History → History → Type 0) (cfg : Sections) (H : History) where
   -- a first step began, behind which the next goes on
@@ -254,7 +264,7 @@ module _ (First Next : History → History → Type 0) (cfg : Sections) (H : His
       }
 
   -- the first step was entered, and the next began
-  pub began_next : (mid book : Book) (at : Desk) → Entered First cfg H mid at
+  pub began_next : (mid book : Book) (at : Tally) → Entered First cfg H mid at
       → ((before : History) → IsCounted cfg before mid at → Began Next cfg before book)
       → Began (Then First Next) cfg H book
   began_next mid book at entered next =
@@ -267,10 +277,10 @@ module _ (First Next : History → History → Type 0) (cfg : Sections) (H : His
       }
 
   -- both were entered
-  pub entered_both : (mid book : Book) (at desk : Desk) → Entered First cfg H mid at
-      → ((before : History) → IsCounted cfg before mid at → Entered Next cfg before book desk)
-      → Entered (Then First Next) cfg H book desk
-  entered_both mid book at desk entered next =
+  pub entered_both : (mid book : Book) (at tally : Tally) → Entered First cfg H mid at
+      → ((before : History) → IsCounted cfg before mid at → Entered Next cfg before book tally)
+      → Entered (Then First Next) cfg H book tally
+  entered_both mid book at tally entered next =
       let both = next entered.after entered.counted in
       record {
         after = both.after;
@@ -335,14 +345,14 @@ module _ (count : ℕ) (cfg : Sections) (H : History) where
   begun_first book began =
       whole_begun book (began_first (Announces count) (Second count) cfg H book (second_goes_on count) began)
 
-  pub begun_second : (mid book : Book) (at : Desk) → Entered (Announces count) cfg H mid at
+  pub begun_second : (mid book : Book) (at : Tally) → Entered (Announces count) cfg H mid at
       → ((before : History) → IsCounted cfg before mid at → Began AreCut cfg before book)
       → Began (IsEntered count) cfg H book
   begun_second mid book at announced next =
       whole_begun book (began_next (Announces count) (Second count) cfg H mid book at announced
       (λ before counted. began_first AreCut (Third count) cfg before book (third_goes_on count) (next before counted)))
 
-  pub begun_third : (one mid book : Book) (first at : Desk) → Entered (Announces count) cfg H one first
+  pub begun_third : (one mid book : Book) (first at : Tally) → Entered (Announces count) cfg H one first
       → ((before : History) → IsCounted cfg before one first → Entered AreCut cfg before mid at)
       → ((before : History) → IsCounted cfg before mid at → Began (Withdraws count) cfg before book)
       → Began (IsEntered count) cfg H book
@@ -351,22 +361,22 @@ module _ (count : ℕ) (cfg : Sections) (H : History) where
       (λ before counted. began_next AreCut (Third count) cfg before mid book at (cuts before counted)
       (λ later again. began_first (Withdraws count) AreCut cfg later book cuts_go_on (next later again))))
 
-  pub all_entered : {E : Type 0} (one two mid book : Book) (first second at desk : Desk) (result : Result (Unit {0}) E)
+  pub all_entered : {E : Type 0} (one two mid book : Book) (first second at tally : Tally) (result : Result (Unit {0}) E)
       → Entered (Announces count) cfg H one first
       → ((before : History) → IsCounted cfg before one first → Entered AreCut cfg before two second)
       → ((before : History) → IsCounted cfg before two second → Entered (Withdraws count) cfg before mid at)
-      → ((before : History) → IsCounted cfg before mid at → Enters AreCut cfg before book desk result)
-      → Enters (IsEntered count) cfg H book desk result
-  all_entered one two mid book first second at desk (Ok done) announced cuts withdraws next =
-      let all = entered_both (Announces count) (Second count) cfg H one book first desk announced
-      (λ before counted. entered_both AreCut (Third count) cfg before two book second desk (cuts before counted)
-      (λ later again. entered_both (Withdraws count) AreCut cfg later mid book at desk (withdraws later again) next)) in
+      → ((before : History) → IsCounted cfg before mid at → Enters AreCut cfg before book tally result)
+      → Enters (IsEntered count) cfg H book tally result
+  all_entered one two mid book first second at tally (Ok done) announced cuts withdraws next =
+      let all = entered_both (Announces count) (Second count) cfg H one book first tally announced
+      (λ before counted. entered_both AreCut (Third count) cfg before two book second tally (cuts before counted)
+      (λ later again. entered_both (Withdraws count) AreCut cfg later mid book at tally (withdraws later again) next)) in
       record {
         after = all.after;
         leads = whole_is count H all.after all.leads;
         counted = all.counted;
       }
-  all_entered one two mid book first second at desk (Err because) announced cuts withdraws next =
+  all_entered one two mid book first second at tally (Err because) announced cuts withdraws next =
       whole_begun book (began_next (Announces count) (Second count) cfg H one book first announced
       (λ before counted. began_next AreCut (Third count) cfg before two book second (cuts before counted)
       (λ later again. began_next (Withdraws count) AreCut cfg later mid book at (withdraws later again) next)))
@@ -388,25 +398,24 @@ same_counts H taken tally t = record {
 
 -- a line was entered and its reply taken, and the line is counted by a call
 pub line_entered : {E : Type 0} (cfg : Sections) (H : History) (text : List ℕ) (line : Line)
-    (reading : Result Command ReadFault) (given : Verdict) (taken : Take) (book : Book) (at desk : Desk)
-    (result : Result (Unit {0}) E) → line ≡ Text text → desk.message.room ≡ max_message → Tallies H at.tally
+    (reading : Result Command ReadFault) (given : Verdict) (taken : Take) (book : Book) (at tally : Tally)
+    (result : Result (Unit {0}) E) → line ≡ Text text → Tallies H at
     → Stands cfg (RepliesTaken 0 1 taken ∷ LineEntered 0 1 line reading given ∷ H) book
     → OnOk result ((before : History) (h inc : ℕ) (other : Line) (said : Result Command ReadFault)
-    → Tallies before at.tally → Tallies (LineEntered h inc other said given ∷ before) desk.tally)
-    → Enters (IsReplied text) cfg H book desk result
-line_entered cfg H text line reading given taken book at desk (Ok done) is room counted stands next = record {
+    → Tallies before at → Tallies (LineEntered h inc other said given ∷ before) tally)
+    → Enters (IsReplied text) cfg H book tally result
+line_entered cfg H text line reading given taken book at tally (Ok done) is counted stands next = record {
   after = RepliesTaken 0 1 taken ∷ LineEntered 0 1 (Text text) reading given ∷ H;
   leads = (RepliesTaken 0 1 taken ∷ LineEntered 0 1 (Text text) reading given ∷ [],
       (reading, given, taken, refl), refl);
   counted = record {
     stands = subst (λ (l : Line). Stands cfg (RepliesTaken 0 1 taken ∷ LineEntered 0 1 l reading given ∷ H) book) is
         stands;
-    tally = same_counts (LineEntered 0 1 (Text text) reading given ∷ H) taken desk.tally
+    counts = same_counts (LineEntered 0 1 (Text text) reading given ∷ H) taken tally
         (next H 0 1 (Text text) reading counted);
-    room = room;
   };
 }
-line_entered cfg H text line reading given taken book at desk (Err because) is room counted stands next = record {
+line_entered cfg H text line reading given taken book at tally (Err because) is counted stands next = record {
   after = RepliesTaken 0 1 taken ∷ LineEntered 0 1 (Text text) reading given ∷ H;
   more = [];
   leads = (RepliesTaken 0 1 taken ∷ LineEntered 0 1 (Text text) reading given ∷ [],
@@ -435,28 +444,34 @@ message_alone cfg H bytes out given last book is same stands =
 
 -- and was counted
 pub message_cut : (cfg : Sections) (H : History) (bytes out : List ℕ) (given : Cut) (last : Bool) (book : Book)
-    (desk : Desk) → given ≡ cut.Message last → bytes ≡ out → Stands cfg (MessageCut 0 out given ∷ H) book
-    → Tallies (MessageCut 0 bytes (cut.Message last) ∷ H) desk.tally → desk.message.room ≡ max_message
-    → IsCut true cfg H book desk
-message_cut cfg H bytes out given last book desk is same stands counted room = record {
+    (tally : Tally) → given ≡ cut.Message last → bytes ≡ out → Stands cfg (MessageCut 0 out given ∷ H) book
+    → Tallies (MessageCut 0 bytes (cut.Message last) ∷ H) tally → IsCut true cfg H book tally
+message_cut cfg H bytes out given last book tally is same stands counted = record {
   bytes = bytes;
   given = cut.Message last;
   answer = refl;
-  counted = record {
-    stands = message_alone cfg H bytes out given last book is same stands;
-    tally = counted;
-    room = room;
-  };
+  counted = record { stands = message_alone cfg H bytes out given last book is same stands; counts = counted };
+}
+
+-- and wasn't
+pub message_uncounted : {E : Type 0} (cfg : Sections) (H : History) (bytes out : List ℕ) (given : Cut) (last : Bool)
+    (book : Book) (tally : Tally) (result : Result Bool E) → IsErr result → given ≡ cut.Message last → bytes ≡ out
+    → Stands cfg (MessageCut 0 out given ∷ H) book → Cuts cfg H book tally result
+message_uncounted cfg H bytes out given last book tally (Ok came) failed is same stands = absurd failed
+message_uncounted cfg H bytes out given last book tally (Err because) failed is same stands = record {
+  bytes = bytes;
+  last = last;
+  stands = message_alone cfg H bytes out given last book is same stands;
 }
 
 -- ---- the start, and the end
 
 -- nothing is counted of the start
-pub start_counted : (cfg : Sections) (book : Book) (desk : Desk) (begins : Begins cfg book) → IsFresh desk
-    → IsCounted cfg (begun begins.started begins.raised) book desk
-start_counted cfg book desk begins fresh = record {
+pub start_counted : (cfg : Sections) (book : Book) (tally : Tally) (begins : Begins cfg book) → Tallies [] tally
+    → IsCounted cfg (begun begins.started begins.raised) book tally
+start_counted cfg book tally begins t = record {
   stands = begins.stands;
-  tally = record {
+  counts = record {
     lines = t.lines;
     done = t.done;
     errors = t.errors;
@@ -466,35 +481,15 @@ start_counted cfg book desk begins fresh = record {
     withdrawn = t.withdrawn;
     left = t.left;
   };
-  room = fresh.room;
 }
-  where
-    t : Tallies [] desk.tally
-    t = fresh.tally
-
--- nothing was entered
-pub began_nothing : (cfg : Sections) (count : ℕ) (book : Book) → Stands cfg [] book → LoadBegan cfg count book
-began_nothing cfg count book stands =
-    let rest = load_goes_on count (begun spawn.Stopping up.Stopping) in
-    let all : History = rest.0 ++ begun spawn.Stopping up.Stopping in
-    record {
-      history = [];
-      load = record {
-        more = all;
-        load = record {
-          started = spawn.Stopping;
-          raised = up.Stopping;
-          entered = subst (λ (h : History). IsEntered count (begun spawn.Stopping up.Stopping) h)
-              (sym (append-nil all)) rest.1;
-        };
-      };
-      stands = stands;
-    }
 
 -- the first events were entered
-pub began_some : (cfg : Sections) (count : ℕ) (started : Spawn) (raised : Up) (book : Book)
-    → Began (IsEntered count) cfg (begun started raised) book → LoadBegan cfg count book
-began_some cfg count started raised book began = record {
+pub began_some : {V E : Type 0} (cfg : Sections) (count : ℕ) (started : Spawn) (raised : Up) (book : Book)
+    (result : Result V E) (Told : V → Type 0) → IsErr result
+    → Began (IsEntered count) cfg (begun started raised) book
+    → MatchResult result Told (λ _. LoadBegan cfg count book)
+began_some cfg count started raised book (Ok text) Told failed began = absurd failed
+began_some cfg count started raised book (Err because) Told failed began = record {
   history = began.after;
   load = record {
     more = began.more;
@@ -504,17 +499,17 @@ began_some cfg count started raised book began = record {
 }
 
 -- all was entered, and the text of the counts is made by a call
-pub told_by : {V E : Type 0} (cfg : Sections) (count : ℕ) (started : Spawn) (raised : Up) (book : Book) (desk : Desk)
-    (result : Result V E) (items : V → List ℕ) → Entered (IsEntered count) cfg (begun started raised) book desk
-    → IfOk result (λ text. (H : History) → Tallies H desk.tally → items text ≡ counts_text (counts_of count H))
+pub told_by : {V E : Type 0} (cfg : Sections) (count : ℕ) (started : Spawn) (raised : Up) (book : Book) (tally : Tally)
+    (result : Result V E) (items : V → List ℕ) → Entered (IsEntered count) cfg (begun started raised) book tally
+    → IfOk result (λ text. (H : History) → Tallies H tally → items text ≡ counts_text (counts_of count H))
     → MatchResult result (λ text. IsTold cfg count book (items text)) (λ _. LoadBegan cfg count book)
-told_by cfg count started raised book desk (Ok text) items entered told = record {
+told_by cfg count started raised book tally (Ok text) items entered told = record {
   history = entered.after;
   load = record { started = started; raised = raised; entered = entered.leads };
   stands = entered.counted.stands;
-  text_is = told entered.after entered.counted.tally;
+  text_is = told entered.after entered.counted.counts;
 }
-told_by cfg count started raised book desk (Err because) items entered told = record {
+told_by cfg count started raised book tally (Err because) items entered told = record {
   history = entered.after;
   load = record {
     more = [];

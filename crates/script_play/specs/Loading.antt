@@ -15,13 +15,11 @@ use Rattle.book_core.specs.Stands.{Stands}
 use Rattle.text_history.specs.Plays.{is_message}
 use Rattle.script_play.specs.declared.counting.Tally.{Tally}
 use Rattle.script_play.specs.declared.halt.Halt.TheVariants as halt
-use Rattle.script_play.specs.declared.loading.Desk.{Desk}
 use Rattle.script_play.specs.declared.status.Status.{Status}
 use Rattle.script_play.specs.declared.status.Status.TheVariants as status
 use Rattle.script_play.specs.Loads.{IsLoad, IsLoadPart, counts_of, counts_text, effects_in, is_done, is_error, is_gone}
 use Rattle.script_play.specs.Loads.{is_here, messages_in, verdicts_in, begun}
 use Rattle.script_play.specs.Loads.{AddsReplied}
-use Rattle.script_play.specs.Player.{max_message}
 use Rattle.script_play.specs.Standing.{AreLeftAt}
 use Rattle.script_play.specs.Writing.{Broke, Wrote}
 
@@ -37,17 +35,16 @@ pub record Tallies (H : History) (tally : Tally) : Type 0 where
   pub left : AreLeftAt (effects_in H) tally.left
 
 -- a book stands for a history, and it was counted
-pub record IsCounted (cfg : Sections) (H : History) (book : Book) (desk : Desk) : Type 0 where
+pub record IsCounted (cfg : Sections) (H : History) (book : Book) (tally : Tally) : Type 0 where
   pub stands : Stands cfg H book
-  pub tally : Tallies H desk.tally
-  pub room : desk.message.room ≡ max_message
+  pub counts : Tallies H tally
 
 -- events that lead from a history to another were entered and counted
-pub record Entered (Leads : History → History → Type 0) (cfg : Sections) (H : History) (book : Book) (desk : Desk)
+pub record Entered (Leads : History → History → Type 0) (cfg : Sections) (H : History) (book : Book) (tally : Tally)
     : Type 0 where
   pub after : History
   pub leads : Leads H after
-  pub counted : IsCounted cfg after book desk
+  pub counted : IsCounted cfg after book tally
 
 -- the first of them were entered
 pub record Began (Leads : History → History → Type 0) (cfg : Sections) (H : History) (book : Book) : Type 0 where
@@ -57,21 +54,21 @@ pub record Began (Leads : History → History → Type 0) (cfg : Sections) (H : 
   pub stands : Stands cfg after book
 
 -- what a call leaves that enters and counts events
-abbrev pub Enters : {E : Type 0} → (History → History → Type 0) → Sections → History → Book → Desk → Result (Unit {0}) E
+abbrev pub Enters : {E : Type 0} → (History → History → Type 0) → Sections → History → Book → Tally → Result (Unit {0}) E
     → Type 0
-Enters Leads cfg H book desk (Ok _) = Entered Leads cfg H book desk
-Enters Leads cfg H book desk (Err _) = Began Leads cfg H book
+Enters Leads cfg H book tally (Ok _) = Entered Leads cfg H book tally
+Enters Leads cfg H book tally (Err _) = Began Leads cfg H book
 
 -- a line is said, and its reply taken
 abbrev pub IsReplied : List ℕ → History → History → Type 0
 IsReplied text H H' = (added : History) × AddsReplied text added × (H' ≡ added ++ H)
 
 -- one cut was entered and counted, which made a message or didn't
-pub record IsCut (came : Bool) (cfg : Sections) (H : History) (book : Book) (desk : Desk) : Type 0 where
+pub record IsCut (came : Bool) (cfg : Sections) (H : History) (book : Book) (tally : Tally) : Type 0 where
   pub bytes : List ℕ
   pub given : Cut
   pub answer : is_message given ≡ came
-  pub counted : IsCounted cfg (MessageCut 0 bytes given ∷ H) book desk
+  pub counted : IsCounted cfg (MessageCut 0 bytes given ∷ H) book tally
 
 -- a message was cut, and isn't counted
 pub record IsCutAlone (cfg : Sections) (H : History) (book : Book) : Type 0 where
@@ -80,20 +77,15 @@ pub record IsCutAlone (cfg : Sections) (H : History) (book : Book) : Type 0 wher
   pub stands : Stands cfg (MessageCut 0 bytes (cut.Message last) ∷ H) book
 
 -- what a call leaves that cuts once
-abbrev pub Cuts : {E : Type 0} → Sections → History → Book → Desk → Result Bool E → Type 0
-Cuts cfg H book desk (Ok came) = IsCut came cfg H book desk
-Cuts cfg H book desk (Err _) = IsCutAlone cfg H book
+abbrev pub Cuts : {E : Type 0} → Sections → History → Book → Tally → Result Bool E → Type 0
+Cuts cfg H book tally (Ok came) = IsCut came cfg H book tally
+Cuts cfg H book tally (Err _) = IsCutAlone cfg H book
 
 -- a helper was started, and a session came up
 pub record Begins (cfg : Sections) (book : Book) : Type 0 where
   pub started : Spawn
   pub raised : Up
   pub stands : Stands cfg (begun started raised) book
-
--- nothing was counted
-pub record IsFresh (desk : Desk) : Type 0 where
-  pub tally : Tallies [] desk.tally
-  pub room : desk.message.room ≡ max_message
 
 -- a load was done, and its counts stand in a text
 pub record IsTold (cfg : Sections) (count : ℕ) (book : Book) (text : List ℕ) : Type 0 where

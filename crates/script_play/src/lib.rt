@@ -24,3 +24,6 @@ mod writing;
 pub use loading::load;
 pub use playing::play;
 pub use status::{STATUS_ROOM, Status};
+
+#[cfg(test)]
+mod tests;

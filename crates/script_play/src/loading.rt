@@ -9,8 +9,9 @@ ghost use Rattle.book_core.specs.Stands.{Stands};
 ghost use Rattle.text_history.specs.Adding.{Adding};
 ghost use Rattle.script_play.specs.Loads.{AddsAnnounce, AddsWithdraw, AreCut, IsEntered, announce_line};
 ghost use Rattle.script_play.specs.Loads.{load_caps, load_prefix, max_routes, withdraw_line};
-ghost use Rattle.script_play.specs.Loading.{Begins, Cuts, Enters, IsCounted, IsFresh};
-ghost use Rattle.script_play.specs.Loading.{IsReplied, IsTold, LoadBegan, Loads, Tells};
+ghost use Rattle.script_play.specs.Loading.{Begins, Cuts, Enters, IsCounted, IsReplied, IsTold};
+ghost use Rattle.script_play.specs.Loading.{LoadBegan, Loads, Tells};
+ghost use Rattle.script_play.specs.Player.{max_message};
 
 use crate::counting::Tally;
 use crate::player::MAX_MESSAGE;
@@ -57,14 +58,6 @@ const STEP: u32 = 256;
 // How many bytes a line has at most.
 const LINE_ROOM: usize = 64;
 
-// What a load uses for each event: the tally, and the buffer of messages.
-#[derive(Drop)]
-struct Desk {
-    alloc: Global,
-    tally: Tally,
-    message: Message,
-}
-
 /// Enters a large input into a newly opened book, and writes what was counted of it as nine lines.
 ///
 /// A helper is started, the neighbour's session comes up, so many routes are announced, a line each, and all messages
@@ -102,22 +95,10 @@ fn load_all(alloc: Global, book: &mut Book, count: u32) -> Result<Vec<u8>, NoMem
     ensures { (cfg : Sections) → Stands cfg [] book.old → MatchResult result
         (λ text. IsTold cfg count book.new text.items) (λ _. LoadBegan cfg count book.new) }
 {
-    let mut desk = new_desk(alloc)?;
+    let mut tally = Tally::new(alloc);
     begin(book);
-    enter_all(book, &mut desk, count)?;
-    desk.tally.text(alloc, count)
-}
-
-// A desk at which nothing was counted.
-fn new_desk(alloc: Global) -> Result<Desk, NoMemory>
-    ensures { IfOk result IsFresh }
-{
-    let message = Message::new(alloc, MAX_MESSAGE)?;
-    Ok(Desk {
-        alloc,
-        tally: Tally::new(alloc),
-        message,
-    })
+    enter_all(alloc, book, &mut tally, count)?;
+    tally.text(alloc, count)
 }
 
 // Starts the helper, and the session comes up.
@@ -136,61 +117,61 @@ fn caps() -> Caps
 }
 
 // Enters what comes behind that.
-fn enter_all(book: &mut Book, desk: &mut Desk, count: u32) -> Result<(), NoMemory>
+fn enter_all(alloc: Global, book: &mut Book, tally: &mut Tally, count: u32) -> Result<(), NoMemory>
     requires { count ≤ max_routes }
-    ensures { (cfg : Sections) (H : History) → IsCounted cfg H book.old desk.old
-        → Enters (IsEntered count) cfg H book.new desk.new result }
+    ensures { (cfg : Sections) (H : History) → IsCounted cfg H book.old tally.old
+        → Enters (IsEntered count) cfg H book.new tally.new result }
 {
-    announce_all(book, desk, count)?;
-    drain(book, desk)?;
-    withdraw_all(book, desk, (count + 1) / 2)?;
-    drain(book, desk)
+    announce_all(alloc, book, tally, count)?;
+    drain(alloc, book, tally)?;
+    withdraw_all(alloc, book, tally, (count + 1) / 2)?;
+    drain(alloc, book, tally)
 }
 
 // The first routes are announced, so many of them.
-fn announce_all(book: &mut Book, desk: &mut Desk, count: u32) -> Result<(), NoMemory>
+fn announce_all(alloc: Global, book: &mut Book, tally: &mut Tally, count: u32) -> Result<(), NoMemory>
     requires { count ≤ max_routes }
-    ensures { (cfg : Sections) (H : History) → IsCounted cfg H book.old desk.old
+    ensures { (cfg : Sections) (H : History) → IsCounted cfg H book.old tally.old
         → Enters (λ was now. Adding AddsAnnounce was (numbers_from 0 count) now) cfg H
-        book.new desk.new result }
+        book.new tally.new result }
 {
     'routes: for i in 0..count {
-        announce(book, desk, i)?;
+        announce(alloc, book, tally, i)?;
     }
     Ok(())
 }
 
 // The first routes of those with even numbers are withdrawn, so many of them.
-fn withdraw_all(book: &mut Book, desk: &mut Desk, count: u32) -> Result<(), NoMemory>
+fn withdraw_all(alloc: Global, book: &mut Book, tally: &mut Tally, count: u32) -> Result<(), NoMemory>
     requires { 2 * count ≤ max_routes + 1 }
-    ensures { (cfg : Sections) (H : History) → IsCounted cfg H book.old desk.old
+    ensures { (cfg : Sections) (H : History) → IsCounted cfg H book.old tally.old
         → Enters (λ was now. Adding AddsWithdraw was (numbers_from 0 count) now) cfg H
-        book.new desk.new result }
+        book.new tally.new result }
 {
     'routes: for i in 0..count {
-        withdraw(book, desk, 2 * i)?;
+        withdraw(alloc, book, tally, 2 * i)?;
     }
     Ok(())
 }
 
 // The route of a number is announced.
-fn announce(book: &mut Book, desk: &mut Desk, i: u32) -> Result<(), NoMemory>
+fn announce(alloc: Global, book: &mut Book, tally: &mut Tally, i: u32) -> Result<(), NoMemory>
     requires { i < max_routes }
-    ensures { (cfg : Sections) (H : History) → IsCounted cfg H book.old desk.old
-        → Enters (IsReplied (announce_line i)) cfg H book.new desk.new result }
+    ensures { (cfg : Sections) (H : History) → IsCounted cfg H book.old tally.old
+        → Enters (IsReplied (announce_line i)) cfg H book.new tally.new result }
 {
     let line = announce_line(i);
-    enter(book, desk, &line)
+    enter(alloc, book, tally, &line)
 }
 
 // The route of a number is withdrawn.
-fn withdraw(book: &mut Book, desk: &mut Desk, i: u32) -> Result<(), NoMemory>
+fn withdraw(alloc: Global, book: &mut Book, tally: &mut Tally, i: u32) -> Result<(), NoMemory>
     requires { i < max_routes }
-    ensures { (cfg : Sections) (H : History) → IsCounted cfg H book.old desk.old
-        → Enters (IsReplied (withdraw_line i)) cfg H book.new desk.new result }
+    ensures { (cfg : Sections) (H : History) → IsCounted cfg H book.old tally.old
+        → Enters (IsReplied (withdraw_line i)) cfg H book.new tally.new result }
 {
     let line = withdraw_line(i);
-    enter(book, desk, &line)
+    enter(alloc, book, tally, &line)
 }
 
 // The line that announces the route of a number.
@@ -237,14 +218,14 @@ fn put(piece: &[u8], line: &mut ArrayVec<u8, LINE_ROOM>)
 }
 
 // Enters a line of the helper, takes its reply, and counts it.
-fn enter(book: &mut Book, desk: &mut Desk, line: &[u8]) -> Result<(), NoMemory>
-    ensures { (cfg : Sections) (H : History) → IsCounted cfg H book.old desk.old
-        → Enters (IsReplied line.now) cfg H book.new desk.new result }
+fn enter(alloc: Global, book: &mut Book, tally: &mut Tally, line: &[u8]) -> Result<(), NoMemory>
+    ensures { (cfg : Sections) (H : History) → IsCounted cfg H book.old tally.old
+        → Enters (IsReplied line.now) cfg H book.new tally.new result }
 {
-    let read = ReadLine::new(desk.alloc, Line::Text(line));
+    let read = ReadLine::new(alloc, Line::Text(line));
     let given = book.line(0, 1, &read);
     end_take(book.take(0, 1));
-    desk.tally.line(given)
+    tally.line(given)
 }
 
 // Nothing more is asked of how a helper was started.
@@ -264,27 +245,36 @@ fn end_take(given: Take) {
 }
 
 // Messages are cut until none comes.
-fn drain(book: &mut Book, desk: &mut Desk) -> Result<(), NoMemory>
-    ensures { (cfg : Sections) (H : History) → IsCounted cfg H book.old desk.old
-        → Enters AreCut cfg H book.new desk.new result }
+fn drain(alloc: Global, book: &mut Book, tally: &mut Tally) -> Result<(), NoMemory>
+    ensures { (cfg : Sections) (H : History) → IsCounted cfg H book.old tally.old
+        → Enters AreCut cfg H book.new tally.new result }
 {
-    'cuts: for _ in 0..u64::MAX {
-        if !cut(book, desk)? {
+    let mut message = Message::new(alloc, MAX_MESSAGE)?;
+    'cuts: for _count in 0..u64::MAX {
+        let came = cut(alloc, book, tally, &mut message)?;
+        if !came {
             return Ok(());
         }
     }
     Err(NoMemory)
 }
 
-// Cuts once, and counts a message. Whether one came.
-fn cut(book: &mut Book, desk: &mut Desk) -> Result<bool, NoMemory>
-    ensures { (cfg : Sections) (H : History) → IsCounted cfg H book.old desk.old
-        → Cuts cfg H book.new desk.new result }
+// Cuts once into a buffer, and counts a message. Whether one came.
+fn cut(
+    alloc: Global,
+    book: &mut Book,
+    tally: &mut Tally,
+    message: &mut Message,
+) -> Result<bool, NoMemory>
+    requires { message.old.room ≡ max_message }
+    ensures cuts { (cfg : Sections) (H : History) → IsCounted cfg H book.old tally.old
+        → Cuts cfg H book.new tally.new result }
+    ensures room { message.new.room ≡ message.old.room }
 {
-    desk.message.clear();
-    match book.cut(0, &mut desk.message) {
+    message.clear();
+    match book.cut(0, message) {
         Cut::Message { .. } => {
-            desk.tally.message(desk.alloc, desk.message.bytes())?;
+            tally.message(alloc, message.bytes())?;
             Ok(true)
         }
         Cut::Down | Cut::Reset { .. } | Cut::Nothing => Ok(false),

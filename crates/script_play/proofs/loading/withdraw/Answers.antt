@@ -4,5 +4,5 @@ use Rattle.script_play.proofs.loading.withdraw.Goals as goal
 
 pub returns : goal.returns
 returns c = λ cfg H counted.
-    subst (λ (text : List ℕ). Enters (IsReplied text) cfg H c.enter.new.book c.enter.new.desk c.enter.result)
-    (c.deref.ensures.value ∙ c.withdraw_line-line.ensures) (c.enter.ensures cfg H counted)
+    subst (λ (text : List ℕ). Enters (IsReplied text) cfg H c.enter.new.book c.enter.new.tally c.enter.result)
+    (c.deref.ensures.0 ∙ c.withdraw_line-line.ensures) (c.enter.ensures cfg H counted)

@@ -1,4 +1,3 @@
-use Rattle.std.proofs.Common.{ℕ}
 use Rattle.config_model.specs.Sections.{Sections}
 use Rattle.book_history.specs.Bounds.{numbers_from}
 use Rattle.book_history.specs.Entries.{History}
@@ -7,7 +6,7 @@ use Rattle.script_play.specs.Loads.{AddsWithdraw}
 use Rattle.script_play.specs.Loading.{Entered, IsCounted}
 use Rattle.script_play.proofs.loading.withdraw_all.Given as goal
 
--- the routes so far were withdrawn
+-- the lines so far were entered
 abbrev pub invariant-routes : goal.invariant-routes
-invariant-routes l = (cfg : Sections) (H : History) → IsCounted cfg H l.fn.book l.fn.desk
-    → Entered (λ was now. Adding AddsWithdraw was (numbers_from 0 l.i) now) cfg H l.book l.desk
+invariant-routes l = (cfg : Sections) (H : History) → IsCounted cfg H l.fn.book l.fn.tally
+    → Entered (λ was now. Adding AddsWithdraw was (numbers_from 0 l.i) now) cfg H l.book l.tally

@@ -1,4 +1,0 @@
-use Rattle.script_play.proofs.loading.load.Goals as goal
-
-pub returns : goal.returns
-returns c = ?

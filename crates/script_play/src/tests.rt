@@ -1,0 +1,3 @@
+//! Commands, from memory to memory.
+
+mod loading;
