@@ -18,11 +18,9 @@ use Rattle.book_core.specs.Stands.{Stands}
 use Rattle.book_history.specs.declared.outcomes.Cut.{Cut}
 use Rattle.book_history.specs.declared.outcomes.Cut.TheVariants as cut
 use Rattle.book_history.specs.declared.outcomes.Spawn.{Spawn}
-use Rattle.book_history.specs.declared.outcomes.Spawn.TheVariants as spawn
 use Rattle.book_history.specs.declared.outcomes.Take.{Take}
 use Rattle.book_history.specs.declared.outcomes.Take.TheVariants as take
 use Rattle.book_history.specs.declared.outcomes.Up.{Up}
-use Rattle.book_history.specs.declared.outcomes.Up.TheVariants as up
 use Rattle.book_history.specs.declared.outcomes.Verdict.{Verdict}
 use Rattle.book_history.specs.declared.outcomes.Verdict.TheVariants as verdict
 use Rattle.book_history.specs.Bounds.{numbers_from}
@@ -77,19 +75,27 @@ GoesOn Leads = (start : History) → (added : History) × Leads start (added ++ 
 goes_on_then : (First Next : History → History → Type 0) → GoesOn First → GoesOn Next → GoesOn (Then First Next)
 goes_on_then First Next first next = λ start.
     let one = first start in
-    let more = next (one.0 ++ start) in
-    (more.0 ++ one.0,
-    (one.0 ++ start, one.1, subst (Next (one.0 ++ start)) (sym (append_assoc more.0 one.0 start)) more.1))
+    let more = next (one.0 ++ start) in (
+      more.0 ++ one.0,
+      (one.0 ++ start, one.1, subst (Next (one.0 ++ start)) (sym (append_assoc more.0 one.0 start)) more.1),
+    )
 
 cuts_go_on : GoesOn AreCut
-cuts_go_on = λ start. (last, (last, record {
-  bytes = [];
-  given = cut.Nothing;
-  messages = [];
-  none = refl;
-  are = tt;
-  added_are = refl;
-}, refl))
+cuts_go_on = λ start. (
+  last,
+  (
+    last,
+    record {
+      bytes = [];
+      given = cut.Nothing;
+      messages = [];
+      none = refl;
+      are = tt;
+      added_are = refl;
+    },
+    refl,
+  ),
+)
   where
     last : History
     last = MessageCut 0 [] cut.Nothing ∷ []
@@ -119,10 +125,15 @@ module _ (make : ℕ → List ℕ) where
   says_go_on [] = λ start. ([], refl)
   says_go_on (i ∷ numbers) = λ start.
       let one : History =
-          RepliesTaken 0 1 take.Nothing ∷ LineEntered 0 1 (Text (make i)) (Ok command.Reload) verdict.Ended ∷ [] in
-      let more = says_go_on numbers (one ++ start) in
-      (more.0 ++ one, (one, (Ok command.Reload, verdict.Ended, take.Nothing, refl),
-      subst (Says numbers (one ++ start)) (sym (append_assoc more.0 one start)) more.1))
+      RepliesTaken 0 1 take.Nothing ∷ LineEntered 0 1 (Text (make i)) (Ok command.Reload) verdict.Ended ∷ [] in
+      let more = says_go_on numbers (one ++ start) in (
+        more.0 ++ one,
+        (
+          one,
+          (Ok command.Reload, verdict.Ended, take.Nothing, refl),
+          subst (Says numbers (one ++ start)) (sym (append_assoc more.0 one start)) more.1,
+        ),
+      )
 
   -- one line more
   says_more : (i : ℕ) (H mid end : History) → SaysFirst i H mid → IsReplied (make i) mid end → SaysFirst (i + 1) H end
@@ -247,7 +258,7 @@ module _ (cfg : Sections) (H : History) where
 pub began_err : {E : Type 0} (Leads : History → History → Type 0) (cfg : Sections) (H : History) (book : Book)
     (tally : Tally) (result : Result (Unit {0}) E) → IsErr result → Began Leads cfg H book
     → Enters Leads cfg H book tally result
-began_err Leads cfg H book tally (Ok done) failed began = absurd failed
+began_err Leads cfg H book tally (Ok done) failed began = absurd (let no_way : false ≡ true = failed in cc)
 began_err Leads cfg H book tally (Err because) failed began = began
 
 module _ (First Next : History → History → Type 0) (cfg : Sections) (H : History) where
@@ -258,8 +269,11 @@ module _ (First Next : History → History → Type 0) (cfg : Sections) (H : His
       record {
         after = began.after;
         more = rest.0 ++ began.more;
-        leads = (began.more ++ began.after, began.leads,
-            subst (Next (began.more ++ began.after)) (sym (append_assoc rest.0 began.more began.after)) rest.1);
+        leads = (
+          began.more ++ began.after,
+          began.leads,
+          subst (Next (began.more ++ began.after)) (sym (append_assoc rest.0 began.more began.after)) rest.1,
+        );
         stands = began.stands;
       }
 
@@ -324,13 +338,6 @@ whole_is count H H' (announced, announces, (sent, cuts, (withdrawn, withdraws, c
   withdraws = withdraws;
   cuts_again = cuts_again;
 }
-
--- with some answers all is entered
-pub load_goes_on : (count : ℕ) → GoesOn (IsEntered count)
-load_goes_on count = λ start.
-    let rest = goes_on_then (Announces count) (Second count) (says_go_on announce_line (numbers_from 0 count))
-    (second_goes_on count) start in
-    (rest.0, whole_is count start (rest.0 ++ start) rest.1)
 
 module _ (count : ℕ) (cfg : Sections) (H : History) where
   whole_begun : (book : Book) → Began (Whole count) cfg H book → Began (IsEntered count) cfg H book
@@ -406,8 +413,11 @@ pub line_entered : {E : Type 0} (cfg : Sections) (H : History) (text : List ℕ)
     → Enters (IsReplied text) cfg H book tally result
 line_entered cfg H text line reading given taken book at tally (Ok done) is counted stands next = record {
   after = RepliesTaken 0 1 taken ∷ LineEntered 0 1 (Text text) reading given ∷ H;
-  leads = (RepliesTaken 0 1 taken ∷ LineEntered 0 1 (Text text) reading given ∷ [],
-      (reading, given, taken, refl), refl);
+  leads = (
+    RepliesTaken 0 1 taken ∷ LineEntered 0 1 (Text text) reading given ∷ [],
+    (reading, given, taken, refl),
+    refl,
+  );
   counted = record {
     stands = subst (λ (l : Line). Stands cfg (RepliesTaken 0 1 taken ∷ LineEntered 0 1 l reading given ∷ H) book) is
         stands;
@@ -418,8 +428,11 @@ line_entered cfg H text line reading given taken book at tally (Ok done) is coun
 line_entered cfg H text line reading given taken book at tally (Err because) is counted stands next = record {
   after = RepliesTaken 0 1 taken ∷ LineEntered 0 1 (Text text) reading given ∷ H;
   more = [];
-  leads = (RepliesTaken 0 1 taken ∷ LineEntered 0 1 (Text text) reading given ∷ [],
-      (reading, given, taken, refl), refl);
+  leads = (
+    RepliesTaken 0 1 taken ∷ LineEntered 0 1 (Text text) reading given ∷ [],
+    (reading, given, taken, refl),
+    refl,
+  );
   stands = subst (λ (l : Line). Stands cfg (RepliesTaken 0 1 taken ∷ LineEntered 0 1 l reading given ∷ H) book) is
       stands;
 }
@@ -457,7 +470,7 @@ message_cut cfg H bytes out given last book tally is same stands counted = recor
 pub message_uncounted : {E : Type 0} (cfg : Sections) (H : History) (bytes out : List ℕ) (given : Cut) (last : Bool)
     (book : Book) (tally : Tally) (result : Result Bool E) → IsErr result → given ≡ cut.Message last → bytes ≡ out
     → Stands cfg (MessageCut 0 out given ∷ H) book → Cuts cfg H book tally result
-message_uncounted cfg H bytes out given last book tally (Ok came) failed is same stands = absurd failed
+message_uncounted cfg H bytes out given last book tally (Ok came) failed is same stands = absurd (let no_way : false ≡ true = failed in cc)
 message_uncounted cfg H bytes out given last book tally (Err because) failed is same stands = record {
   bytes = bytes;
   last = last;
@@ -488,7 +501,7 @@ pub began_some : {V E : Type 0} (cfg : Sections) (count : ℕ) (started : Spawn)
     (result : Result V E) (Told : V → Type 0) → IsErr result
     → Began (IsEntered count) cfg (begun started raised) book
     → MatchResult result Told (λ _. LoadBegan cfg count book)
-began_some cfg count started raised book (Ok text) Told failed began = absurd failed
+began_some cfg count started raised book (Ok text) Told failed began = absurd (let no_way : false ≡ true = failed in cc)
 began_some cfg count started raised book (Err because) Told failed began = record {
   history = began.after;
   load = record {

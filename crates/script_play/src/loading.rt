@@ -129,7 +129,12 @@ fn enter_all(alloc: Global, book: &mut Book, tally: &mut Tally, count: u32) -> R
 }
 
 // The first routes are announced, so many of them.
-fn announce_all(alloc: Global, book: &mut Book, tally: &mut Tally, count: u32) -> Result<(), NoMemory>
+fn announce_all(
+    alloc: Global,
+    book: &mut Book,
+    tally: &mut Tally,
+    count: u32,
+) -> Result<(), NoMemory>
     requires { count ≤ max_routes }
     ensures { (cfg : Sections) (H : History) → IsCounted cfg H book.old tally.old
         → Enters (λ was now. Adding AddsAnnounce was (numbers_from 0 count) now) cfg H
@@ -142,7 +147,12 @@ fn announce_all(alloc: Global, book: &mut Book, tally: &mut Tally, count: u32) -
 }
 
 // The first routes of those with even numbers are withdrawn, so many of them.
-fn withdraw_all(alloc: Global, book: &mut Book, tally: &mut Tally, count: u32) -> Result<(), NoMemory>
+fn withdraw_all(
+    alloc: Global,
+    book: &mut Book,
+    tally: &mut Tally,
+    count: u32,
+) -> Result<(), NoMemory>
     requires { 2 * count ≤ max_routes + 1 }
     ensures { (cfg : Sections) (H : History) → IsCounted cfg H book.old tally.old
         → Enters (λ was now. Adding AddsWithdraw was (numbers_from 0 count) now) cfg H

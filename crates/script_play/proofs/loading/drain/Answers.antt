@@ -10,29 +10,29 @@ returns-in_err-message c = λ cfg H counted.
     (draining_unbegun cfg H c.args.book.now c.args.tally.now counted)
 
 pub cuts-init : goal.cuts-init
-cuts-init c =
-    (λ cfg H counted. draining_none cfg H c.args.book.now c.args.tally.now counted,
-    ap (λ message. message.room) c.in_ok-message.ensures)
-
-pub cut-came-requires : goal.cut-came-requires
-cut-came-requires c = c.cuts.invariant.1
+cuts-init c = (
+  λ cfg H counted. draining_none cfg H c.args.book.now c.args.tally.now counted,
+  ap (λ message. message.room) c.in_ok-message.ensures,
+)
 
 pub cuts-preserved : goal.cuts-preserved
-cuts-preserved c =
-    (λ cfg H counted. draining_more cfg H c.cuts.book c.cut-came.new.book c.cuts.tally c.cut-came.new.tally
-    c.in_ok-came.came c.if-not-came.false (c.cuts.invariant.0 cfg H counted)
-    (λ before at. c.in_ok-came.ensures.cuts cfg before at), c.cut-came.ensures.room ∙ c.cuts.invariant.1)
+cuts-preserved c = (
+  λ cfg H counted. draining_more cfg H c.cuts.book c.cut.new.book c.cuts.tally c.cut.new.tally
+      c.in_ok-came.came c.if-not-came.false (c.cuts.invariant.0 cfg H counted)
+      (λ before at. c.in_ok-came.ensures.cuts cfg before at),
+  c.cut.ensures.room ∙ c.cuts.invariant.1,
+)
 
 pub returns-in_err-came : goal.returns-in_err-came
 returns-in_err-came c = λ cfg H counted.
-    began_err AreCut cfg H c.cut-came.new.book c.cut-came.new.tally c.from_residual-in_err-came.result
+    began_err AreCut cfg H c.cut.new.book c.cut.new.tally c.from_residual-in_err-came.result
     c.from_residual-in_err-came.ensures.0
-    (draining_begun cfg H c.cuts.book c.cut-came.new.book c.cuts.tally (c.cuts.invariant.0 cfg H counted)
+    (draining_begun cfg H c.cuts.book c.cut.new.book c.cuts.tally (c.cuts.invariant.0 cfg H counted)
     (λ before at. c.in_err-came.ensures.cuts cfg before at))
 
 pub returns-then-not-came : goal.returns-then-not-came
 returns-then-not-came c = λ cfg H counted.
-    draining_end cfg H c.cuts.book c.cut-came.new.book c.cuts.tally c.cut-came.new.tally c.in_ok-came.came
+    draining_end cfg H c.cuts.book c.cut.new.book c.cuts.tally c.cut.new.tally c.in_ok-came.came
     c.if-not-came.true (c.cuts.invariant.0 cfg H counted) (λ before at. c.in_ok-came.ensures.cuts cfg before at)
 
 pub returns : goal.returns
