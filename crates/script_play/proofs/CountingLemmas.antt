@@ -1,7 +1,9 @@
 -- What is counted of a history that goes on.
-use Rattle.std.proofs.Common.{◌≡◌, ℕ, ◌+◌, ◌<◌, Bool, true, false, cond, List, [], ◌∷◌, ◌++◌, length, Some, None, Ok, Err}
+use Rattle.std.proofs.Common.{◌≡◌, ℕ, ◌+◌, ◌<◌, Bool, true, false, cond, List, [], ◌∷◌, ◌++◌, length, Some, None, Ok}
+use Rattle.std.proofs.Common.{Err}
 use Rattle.std.proofs.Common.{refl, sym, ap, ◌∙◌, subst, arith, append_assoc, append-nil, get_or, take}
-use Rattle.std.specs.Prelude.{◌&&◌, ◌||◌, count_by, filter, map, is_some, unwrap_or, if◌then◌else◌, Option, Result, IfOk, OnOk}
+use Rattle.std.specs.Prelude.{◌&&◌, ◌||◌, count_by, filter, map, is_some, unwrap_or, if◌then◌else◌, Option, Result}
+use Rattle.std.specs.Prelude.{IfOk, OnOk}
 use Rattle.std.specs.List.{flat_map, sum_by, IsDistinct}
 use Rattle.std.specs.Set.{is_member}
 use Rattle.std.proofs.lemmas.Grind.{flat_map-append}
@@ -239,7 +241,8 @@ pub message_counted : {E : Type 0} (bytes : List ℕ) (effects : List Effect) (w
     → TakesEffects effects mid now result
     → OnOk result ((H : History) (n : ℕ) (last : Bool) → Tallies H was
     → Tallies (MessageCut n bytes (cut.Message last) ∷ H) now)
-message_counted bytes effects was mid now (Err because) are messages more lines done errors announced withdrawn left took = tt
+message_counted bytes effects was mid now (Err because) are messages more lines done errors announced withdrawn left
+    took = tt
 message_counted bytes effects was mid now (Ok done_) are messages more lines done errors announced withdrawn left took =
     λ H n last t. by_effects H n last t (said_more H bytes)
   where
@@ -262,7 +265,8 @@ message_counted bytes effects was mid now (Ok done_) are messages more lines don
           (took.left (effects_in H) (subst (AreLeftAt (effects_in H)) (sym left) t.left));
     }
       where
-        sizes : (H : History) → sum_by length (messages_in H ++ bytes ∷ []) ≡ sum_by length (messages_in H) + length bytes
+        sizes : (H : History)
+            → sum_by length (messages_in H ++ bytes ∷ []) ≡ sum_by length (messages_in H) + length bytes
         sizes H = omega (arith, sum_by-append length (messages_in H) (bytes ∷ []), sum_by-cons length bytes [])
 
         counted : (test : Effect → Bool) (H : History)

@@ -1,5 +1,6 @@
 -- What a load enters, and the first of it.
-use Rattle.std.proofs.Common.{◌≡◌, ℕ, ◌+◌, ◌-◌, ◌*◌, ◌<◌, ◌≤◌, zero, suc, Bool, true, false, List, [], ◌∷◌, ◌++◌, length, Ok, Err}
+use Rattle.std.proofs.Common.{◌≡◌, ℕ, ◌+◌, ◌-◌, ◌*◌, ◌<◌, ◌≤◌, zero, suc, Bool, true, false, List, [], ◌∷◌, ◌++◌}
+use Rattle.std.proofs.Common.{length, Ok, Err}
 use Rattle.std.proofs.Common.{refl, sym, ap, ◌∙◌, subst, arith, append_assoc, append-nil}
 use Rattle.std.specs.Prelude.{Result, IfOk, IsErr, MatchResult, OnOk, if◌then◌else◌}
 use Rattle.std.specs.List.{AllByRecursion}
@@ -48,14 +49,17 @@ numbers_both n zero k =
 numbers_both n (suc i) k =
     ap (numbers_from n) (let same : suc i + k ≡ suc (i + k) = omega arith in same)
     ∙ ap (λ (ns : List ℕ). n ∷ ns) (numbers_both (suc n) i k)
-    ∙ ap (λ m. n ∷ (numbers_from (suc n) i ++ numbers_from m k)) (let same : suc n + i ≡ n + suc i = omega arith in same)
+    ∙ ap (λ m. n ∷ (numbers_from (suc n) i ++ numbers_from m k))
+    (let same : suc n + i ≡ n + suc i = omega arith in same)
 
 -- one more
 numbers_more : (i : ℕ) → numbers_from 0 (i + 1) ≡ numbers_from 0 i ++ i ∷ []
 numbers_more i =
     numbers_both 0 i 1 ∙ ap (λ m. numbers_from 0 i ++ m ∷ []) (let same : 0 + i ≡ i = omega arith in same)
 
-numbers_rest : (i count : ℕ) → i < count → numbers_from 0 count ≡ numbers_from 0 (i + 1) ++ numbers_from (i + 1) (count - (i + 1))
+-- those behind it
+numbers_rest : (i count : ℕ) → i < count
+    → numbers_from 0 count ≡ numbers_from 0 (i + 1) ++ numbers_from (i + 1) (count - (i + 1))
 numbers_rest i count below =
     ap (numbers_from 0) (let same : count ≡ (i + 1) + (count - (i + 1)) = omega arith in same)
     ∙ numbers_both 0 (i + 1) (count - (i + 1))
@@ -166,7 +170,8 @@ module _ (make : ℕ → List ℕ) where
         record {
           after = one.after;
           more = rest.0 ++ one.more;
-          leads = subst (λ (ns : List ℕ). Says ns H ((rest.0 ++ one.more) ++ one.after)) (sym (numbers_rest i count below))
+          leads = subst (λ (ns : List ℕ). Says ns H ((rest.0 ++ one.more) ++ one.after))
+              (sym (numbers_rest i count below))
               (subst (λ (h : History). Says (numbers_from 0 (i + 1) ++ numbers_from (i + 1) (count - (i + 1))) H h)
               (sym (append_assoc rest.0 one.more one.after))
               (says_both (numbers_from 0 (i + 1)) (numbers_from (i + 1) (count - (i + 1))) H (one.more ++ one.after)
@@ -368,7 +373,8 @@ module _ (count : ℕ) (cfg : Sections) (H : History) where
       (λ before counted. began_next AreCut (Third count) cfg before mid book at (cuts before counted)
       (λ later again. began_first (Withdraws count) AreCut cfg later book cuts_go_on (next later again))))
 
-  pub all_entered : {E : Type 0} (one two mid book : Book) (first second at tally : Tally) (result : Result (Unit {0}) E)
+  pub all_entered : {E : Type 0} (one two mid book : Book) (first second at tally : Tally)
+      (result : Result (Unit {0}) E)
       → Entered (Announces count) cfg H one first
       → ((before : History) → IsCounted cfg before one first → Entered AreCut cfg before two second)
       → ((before : History) → IsCounted cfg before two second → Entered (Withdraws count) cfg before mid at)
@@ -377,7 +383,8 @@ module _ (count : ℕ) (cfg : Sections) (H : History) where
   all_entered one two mid book first second at tally (Ok done) announced cuts withdraws next =
       let all = entered_both (Announces count) (Second count) cfg H one book first tally announced
       (λ before counted. entered_both AreCut (Third count) cfg before two book second tally (cuts before counted)
-      (λ later again. entered_both (Withdraws count) AreCut cfg later mid book at tally (withdraws later again) next)) in
+      (λ later again.
+      entered_both (Withdraws count) AreCut cfg later mid book at tally (withdraws later again) next)) in
       record {
         after = all.after;
         leads = whole_is count H all.after all.leads;
@@ -391,7 +398,8 @@ module _ (count : ℕ) (cfg : Sections) (H : History) where
 -- ---- one line, and one cut
 
 -- what is counted stays through entries that aren't counted
-same_counts : (H : History) (taken : Take) (tally : Tally) → Tallies H tally → Tallies (RepliesTaken 0 1 taken ∷ H) tally
+same_counts : (H : History) (taken : Take) (tally : Tally) → Tallies H tally
+    → Tallies (RepliesTaken 0 1 taken ∷ H) tally
 same_counts H taken tally t = record {
   lines = t.lines;
   done = t.done;
@@ -470,7 +478,8 @@ message_cut cfg H bytes out given last book tally is same stands counted = recor
 pub message_uncounted : {E : Type 0} (cfg : Sections) (H : History) (bytes out : List ℕ) (given : Cut) (last : Bool)
     (book : Book) (tally : Tally) (result : Result Bool E) → IsErr result → given ≡ cut.Message last → bytes ≡ out
     → Stands cfg (MessageCut 0 out given ∷ H) book → Cuts cfg H book tally result
-message_uncounted cfg H bytes out given last book tally (Ok came) failed is same stands = absurd (let no_way : false ≡ true = failed in cc)
+message_uncounted cfg H bytes out given last book tally (Ok came) failed is same stands =
+    absurd (let no_way : false ≡ true = failed in cc)
 message_uncounted cfg H bytes out given last book tally (Err because) failed is same stands = record {
   bytes = bytes;
   last = last;

@@ -103,7 +103,8 @@ module _ (make : Key → Effect) (names : (key : Key) → named_by (make key) �
 
   pub follow_more : (keys : List Key) (i : ℕ) (key : Key) (was mid now : List Key) → i < length keys
       → key ≡ get_or keys i key → Follow keys i was mid
-      → ((other : Key) → is_member same_key now other ≡ (if same_key key other then so else is_member same_key mid other))
+      → ((other : Key) → is_member same_key now other
+      ≡ (if same_key key other then so else is_member same_key mid other))
       → Follow keys (i + 1) was now
   follow_more keys i key was mid now below is follow says = λ before left.
       subst (λ (effects : List Effect). AreLeftAt effects now) (sym (next before))

@@ -54,8 +54,8 @@ pub record Began (Leads : History → History → Type 0) (cfg : Sections) (H : 
   pub stands : Stands cfg after book
 
 -- what a call leaves that enters and counts events
-abbrev pub Enters : {E : Type 0} → (History → History → Type 0) → Sections → History → Book → Tally → Result (Unit {0}) E
-    → Type 0
+abbrev pub Enters : {E : Type 0} → (History → History → Type 0) → Sections → History → Book → Tally
+    → Result (Unit {0}) E → Type 0
 Enters Leads cfg H book tally (Ok _) = Entered Leads cfg H book tally
 Enters Leads cfg H book tally (Err _) = Began Leads cfg H book
 

@@ -1,5 +1,6 @@
 -- What `load` adds to a history, and what it counts of it.
-use Rattle.std.specs.Prelude.{ℕ, ◌≡◌, ◌+◌, ◌*◌, ◌/◌, Bool, true, false, codes, decimal, List, [], ◌∷◌, ◌++◌, length, map}
+use Rattle.std.specs.Prelude.{ℕ, ◌≡◌, ◌+◌, ◌*◌, ◌/◌, Bool, true, false, codes, decimal, List, [], ◌∷◌, ◌++◌, length}
+use Rattle.std.specs.Prelude.{map}
 use Rattle.std.specs.Prelude.{filter, is_some, count_by, Result}
 use Rattle.std.specs.List.{flat_map, sum_by}
 use Rattle.std.specs.Set.{distinct_count}

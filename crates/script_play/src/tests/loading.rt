@@ -23,12 +23,13 @@ const ROOM: usize = 1024;
 const LOADS: [(u32, &str); 3] = [
     (
         1,
-        "routes 1\nlines 2\ndone 2\nerror 0\nmessages 3\nbytes 97\nannounced 1\nwithdrawn 1\nleft 0\n",
+        "routes 1\nlines 2\ndone 2\nerror 0\nmessages 3\nbytes 97\nannounced 1\nwithdrawn 1\n\
+         left 0\n",
     ),
     (
         100,
-        "routes 100\nlines 150\ndone 150\nerror 0\nmessages 3\nbytes 689\nannounced 100\nwithdrawn 50\n\
-         left 50\n",
+        "routes 100\nlines 150\ndone 150\nerror 0\nmessages 3\nbytes 689\nannounced 100\n\
+         withdrawn 50\nleft 50\n",
     ),
     (
         3000,

@@ -16,8 +16,8 @@ routes-preserved c = λ cfg H counted.
 
 pub returns-in_err-announce : goal.returns-in_err-announce
 returns-in_err-announce c = λ cfg H counted.
-    began_err (SaysFirst announce_line c.args.count) cfg H c.announce.new.book c.announce.new.tally c.from_residual.result
-    c.from_residual.ensures.0
+    began_err (SaysFirst announce_line c.args.count) cfg H c.announce.new.book c.announce.new.tally
+    c.from_residual.result c.from_residual.ensures.0
     (one_begun announce_line cfg H c.routes.i c.args.count c.routes.book c.announce.new.book c.routes.tally
     (omega arith) (c.routes.invariant cfg H counted) (λ before at. c.in_err-announce.ensures cfg before at))
 

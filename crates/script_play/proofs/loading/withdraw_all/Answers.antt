@@ -11,15 +11,17 @@ routes-init c = λ cfg H counted. none_said (λ i. withdraw_line (2 * i)) cfg H 
 
 pub routes-preserved : goal.routes-preserved
 routes-preserved c = λ cfg H counted.
-    one_said (λ i. withdraw_line (2 * i)) cfg H c.routes.i c.routes.book c.withdraw.new.book c.routes.tally c.withdraw.new.tally
+    one_said (λ i. withdraw_line (2 * i)) cfg H c.routes.i c.routes.book c.withdraw.new.book c.routes.tally
+    c.withdraw.new.tally
     (c.routes.invariant cfg H counted) (λ before at. c.in_ok-withdraw.ensures cfg before at)
 
 pub returns-in_err-withdraw : goal.returns-in_err-withdraw
 returns-in_err-withdraw c = λ cfg H counted.
-    began_err (SaysFirst (λ i. withdraw_line (2 * i)) c.args.count) cfg H c.withdraw.new.book c.withdraw.new.tally c.from_residual.result
-    c.from_residual.ensures.0
-    (one_begun (λ i. withdraw_line (2 * i)) cfg H c.routes.i c.args.count c.routes.book c.withdraw.new.book c.routes.tally
-    (omega arith) (c.routes.invariant cfg H counted) (λ before at. c.in_err-withdraw.ensures cfg before at))
+    began_err (SaysFirst (λ i. withdraw_line (2 * i)) c.args.count) cfg H c.withdraw.new.book c.withdraw.new.tally
+    c.from_residual.result c.from_residual.ensures.0
+    (one_begun (λ i. withdraw_line (2 * i)) cfg H c.routes.i c.args.count c.routes.book c.withdraw.new.book
+    c.routes.tally (omega arith) (c.routes.invariant cfg H counted)
+    (λ before at. c.in_err-withdraw.ensures cfg before at))
 
 pub returns : goal.returns
 returns c = λ cfg H counted.

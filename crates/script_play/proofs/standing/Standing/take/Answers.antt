@@ -8,6 +8,7 @@ use Rattle.script_play.proofs.standing.Standing.take.Goals as goal
 
 pub returns : goal.returns
 returns c = λ other.
-    key_set c.self.inside.keys.keys c.swap_remove.new.self.keys c.args.key.now false c.swap_remove.ensures.updates.0 other
+    key_set c.self.inside.keys.keys c.swap_remove.new.self.keys c.args.key.now false
+    c.swap_remove.ensures.updates.0 other
     ∙ ap (λ (keys : List Key). if same_key c.args.key.now other then false else is_member same_key keys other)
     c.self.view_is
