@@ -8,8 +8,8 @@ returns-in-Some-clause-refuses g c fault command is faulty files =
     (λ unread. files (counts_rose _ _ (c.run.ensures.config unread)))
 
 pub returns-in-Some-clause-complete : goal.returns-in-Some-clause-complete
-returns-in-Some-clause-complete g c command is good short files input output =
+returns-in-Some-clause-complete g c command is good script short files input output =
     completed c.files_say_one.ensures.apart _ c.in-Some.command _ _ _ _ c.run.result c.run.ensures.answered
-    (good c.in-Some.command c.in-Some.ensures.found)
+    (good c.in-Some.command c.in-Some.ensures.found) (script c.in-Some.command c.in-Some.ensures.found)
     (λ reads. short (c.in-Some.command, c.in-Some.ensures.found, reads))
     (λ unread. files (counts_rose _ _ (c.run.ensures.config unread))) input output
