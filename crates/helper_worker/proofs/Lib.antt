@@ -2,3 +2,5 @@ pub mod RunLemmas
 pub mod PieceLemmas
 pub mod HeardLemmas
 pub mod ReplyLemmas
+pub mod HandingLemmas
+pub mod ServingLemmas

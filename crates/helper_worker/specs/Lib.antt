@@ -1,3 +1,6 @@
 pub mod Lines
 pub mod Hearing
 pub mod Replies
+pub mod Handing
+pub mod Serving
+pub mod Rounds

@@ -8,7 +8,11 @@
 #![tactic(auto)]
 
 mod answering;
+mod errand;
+mod handover;
 mod hearing;
 mod line;
 mod piece;
+mod replying;
+mod serving;
 mod texts;

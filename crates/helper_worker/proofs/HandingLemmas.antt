@@ -1,0 +1,258 @@
+-- What the entries of a replier tell of a sink.
+use Rattle.std.proofs.Common.{ℕ, ◌≡◌, ◌⊎◌, ◌<◌, Bool, true, false, true≢false, ◌||◌, ◌&&◌, ◌==◌, cond, List, [], ◌∷◌, ◌++◌, take, length}
+use Rattle.std.proofs.Common.{Option, Some, None, inl, inr, refl, ap, ap₂, sym, subst, ◌∙◌, append_assoc, append-nil, arith, eq-eqb, ne_eqb}
+use Rattle.std.proofs.lemmas.List.{map-append}
+use Rattle.std.proofs.lemmas.List.Concat.{flat_map-append}
+use Rattle.std.proofs.lemmas.List.Elements.{All-head, All-tail, filter-append}
+use Rattle.std.proofs.lemmas.List.Folds.{list_any-append}
+use Rattle.std.specs.List.{All, flat_map, list_any}
+use mathlib.Core.List.{IsPrefix}
+use Rattle.outside.specs.Told.{Grows}
+use Rattle.book_history.specs.declared.outcomes.Take.{Take}
+use Rattle.book_history.specs.Entries.{Entry}
+use Rattle.book_history.specs.Entries.Entry.{HelperDeaf, RepliesTaken, Stopped}
+use Rattle.book_gate.specs.Calls.{Enters, Learns}
+use Rattle.book_gate.specs.Histories.{entries, entries_by, is_name, signed}
+use Rattle.book_gate.specs.Known.{Glimpsed, Known}
+use Rattle.book_gate.specs.declared.view.Signed.{Signed}
+use Rattle.pass_entries.specs.Making.{Makes, own}
+use Rattle.pass_entries.proofs.MakingLemmas.{makes_learned, makes_more, makes_one}
+use Rattle.helper_worker.specs.Handing.{HasStop, IsAnswered, IsFront, TookNothing, deaf_for, is_stop, lasts_for, text_for, under}
+use Rattle.helper_worker.specs.Replies.{Answers, IsReplyOf, Wrote, deaf_by, is_last, lasts_by, text_by, text_of}
+use Rattle.helper_worker.specs.Serving.{IsFreshFor, ServesOne}
+use Rattle.helper_worker.proofs.RunLemmas.{or_false}
+
+or_true : (test : Bool) → (test || true) ≡ true
+or_true true = refl
+or_true false = refl
+
+module _ {X : Type 0} where
+  front_taken : (front rest : List X) → take (length front) (front ++ rest) ≡ front
+  front_taken [] rest = refl
+  front_taken (first ∷ front) rest = ap (λ (more : List X). first ∷ more) (front_taken front rest)
+
+module _ (P : Entry → Type 0) where
+  flat_same : (f g : Entry → List ℕ) → ((entry : Entry) → P entry → f entry ≡ g entry) → (all : List Entry) → All P all
+      → flat_map f all ≡ flat_map g all
+  flat_same f g same [] are = refl
+  flat_same f g same (entry ∷ more) are =
+      ap₂ (λ (front back : List ℕ). front ++ back) (same entry (All-head P entry more are))
+      (flat_same f g same more (All-tail P entry more are))
+
+  any_same : (f g : Entry → Bool) → ((entry : Entry) → P entry → f entry ≡ g entry) → (all : List Entry) → All P all
+      → list_any f all ≡ list_any g all
+  any_same f g same [] are = refl
+  any_same f g same (entry ∷ more) are =
+      ap₂ (λ (one two : Bool). one || two) (same entry (All-head P entry more are))
+      (any_same f g same more (All-tail P entry more are))
+
+  pub flat_none : (f : Entry → List ℕ) → ((entry : Entry) → P entry → f entry ≡ []) → (all : List Entry) → All P all
+      → flat_map f all ≡ []
+  flat_none f none [] are = refl
+  flat_none f none (entry ∷ more) are =
+      ap₂ (λ (front back : List ℕ). front ++ back) (none entry (All-head P entry more are))
+      (flat_none f none more (All-tail P entry more are))
+
+  pub any_none : (f : Entry → Bool) → ((entry : Entry) → P entry → f entry ≡ false) → (all : List Entry) → All P all
+      → list_any f all ≡ false
+  any_none f none [] are = refl
+  any_none f none (entry ∷ more) are =
+      ap₂ (λ (one two : Bool). one || two) (none entry (All-head P entry more are))
+      (any_none f none more (All-tail P entry more are))
+
+-- an entry of an incarnation is one for it
+text_same : (h inc : ℕ) (entry : Entry) → IsReplyOf h inc entry → text_for inc entry ≡ text_by entry
+text_same h inc entry (inl (given, is)) =
+    ap (text_for inc) is ∙ (ap (λ test. cond test (text_of given) []) (eq-eqb inc inc refl) ∙ sym (ap text_by is))
+text_same h inc entry (inr is) = ap (text_for inc) is ∙ sym (ap text_by is)
+
+lasts_same : (h inc : ℕ) (entry : Entry) → IsReplyOf h inc entry → lasts_for inc entry ≡ lasts_by entry
+lasts_same h inc entry (inl (given, is)) =
+    ap (lasts_for inc) is ∙ (ap (λ test. test && is_last given) (eq-eqb inc inc refl) ∙ sym (ap lasts_by is))
+lasts_same h inc entry (inr is) = ap (lasts_for inc) is ∙ (eq-eqb inc inc refl ∙ sym (ap lasts_by is))
+
+deaf_same : (h inc : ℕ) (entry : Entry) → IsReplyOf h inc entry → deaf_for inc entry ≡ deaf_by entry
+deaf_same h inc entry (inl (given, is)) = ap (deaf_for inc) is ∙ sym (ap deaf_by is)
+deaf_same h inc entry (inr is) = ap (deaf_for inc) is ∙ (eq-eqb inc inc refl ∙ sym (ap deaf_by is))
+
+-- and none for another
+pub text_other : (h inc other : ℕ) → inc < other → (entry : Entry) → IsReplyOf h inc entry → text_for other entry ≡ []
+text_other h inc other below entry (inl (given, is)) =
+    ap (text_for other) is
+    ∙ ap (λ test. cond test (text_of given) []) (ne_eqb inc other (λ same. omega (arith, same, below)))
+text_other h inc other below entry (inr is) = ap (text_for other) is
+
+pub deaf_other : (h inc other : ℕ) → inc < other → (entry : Entry) → IsReplyOf h inc entry → deaf_for other entry ≡ false
+deaf_other h inc other below entry (inl (given, is)) = ap (deaf_for other) is
+deaf_other h inc other below entry (inr is) =
+    ap (deaf_for other) is ∙ ne_eqb inc other (λ same. omega (arith, same, below))
+
+-- what a sink took that had taken nothing
+took_piece : (taken taken' : Option (List ℕ)) (piece part : List ℕ) → TookNothing taken → Grows taken taken' piece
+    → taken' ≡ Some part → part ≡ piece
+took_piece taken None piece part none grows is = absurd (cc (is))
+took_piece None (Some now) piece part none grows is = absurd grows
+took_piece (Some was) (Some now) piece part none grows is =
+    let now_is : now ≡ part = cc (is) in
+    sym now_is ∙ (grows ∙ ap (λ (front : List ℕ). front ++ piece) (none was refl))
+
+front_whole : (faults : ℕ) (text part rest : List ℕ) → text ≡ part ++ rest → (rest ≡ []) ⊎ (0 < faults) → faults ≡ 0
+    → part ≡ text
+front_whole faults text part rest is (inl none) no_fault =
+    sym (append-nil part) ∙ (ap (λ (last : List ℕ). part ++ last) (sym none) ∙ sym is)
+front_whole faults text part rest is (inr some) no_fault = absurd (omega (arith, some, no_fault))
+
+front_of : (taken taken' : Option (List ℕ)) (faults : ℕ) (text : List ℕ) → TookNothing taken
+    → Wrote taken taken' faults text → IsFront taken' faults text
+front_of taken taken' faults text none wrote part is =
+    let part_is = took_piece taken taken' wrote.part part none wrote.grows is in
+    (
+      ap₂ (λ (front whole : List ℕ). take (length front) whole) part_is wrote.text_is
+          ∙ (front_taken wrote.part wrote.rest ∙ sym part_is),
+      λ no_fault. part_is ∙ front_whole faults text wrote.part wrote.rest wrote.text_is wrote.whole no_fault,
+    )
+
+front_nothing : (taken : Option (List ℕ)) (faults : ℕ) → TookNothing taken → IsFront taken faults []
+front_nothing taken faults none part is =
+    let part_is = none part is in
+    (ap (λ (front : List ℕ). take (length front) []) part_is ∙ sym part_is, λ no_fault. part_is)
+
+-- a stop that was seen stays
+pub stop_stays : (seen seen' : List (Signed Entry)) → IsPrefix seen seen' → HasStop seen → HasStop seen'
+stop_stays seen seen' (more, is) stops =
+    ap (λ (all : List (Signed Entry)). list_any is_stop (entries all)) (sym is)
+    ∙ (ap (list_any is_stop) (map-append (λ (made : Signed Entry). made.entry) seen more)
+    ∙ (list_any-append is_stop (entries seen) (entries more)
+    ∙ ap (λ (test : Bool). test || list_any is_stop (entries more)) stops))
+
+-- what was taken for an incarnation for which nothing was taken before
+pub text_more : (inc : ℕ) (before made all : List Entry) → all ≡ before ++ made → IsFreshFor inc before
+    → flat_map (text_for inc) all ≡ flat_map (text_for inc) made
+text_more inc before made all is fresh =
+    ap (flat_map (text_for inc)) is
+    ∙ (flat_map-append (text_for inc) before made
+    ∙ ap (λ (front : List ℕ). front ++ flat_map (text_for inc) made) fresh.0)
+
+pub deaf_more : (inc : ℕ) (before made all : List Entry) → all ≡ before ++ made → IsFreshFor inc before
+    → list_any (deaf_for inc) all ≡ list_any (deaf_for inc) made
+deaf_more inc before made all is fresh =
+    ap (list_any (deaf_for inc)) is
+    ∙ (list_any-append (deaf_for inc) before made
+    ∙ ap (λ (front : Bool). front || list_any (deaf_for inc) made) fresh.1)
+
+lasts_more : (inc : ℕ) (before made all : List Entry) → all ≡ before ++ made → list_any (lasts_for inc) made ≡ true
+    → list_any (lasts_for inc) all ≡ true
+lasts_more inc before made all is lasts =
+    ap (list_any (lasts_for inc)) is
+    ∙ (list_any-append (lasts_for inc) before made
+    ∙ (ap (λ (back : Bool). list_any (lasts_for inc) before || back) lasts
+    ∙ or_true (list_any (lasts_for inc) before)))
+
+module _ {A : Type 0} where
+  under_more : (pass later : Known A Entry) (made : List Entry) (writer : List ℕ) → Makes pass made later
+      → pass.name ≡ writer → under writer later.seen ≡ own pass ++ made
+  under_more pass later made writer makes is =
+      ap (λ (name : List ℕ). under name later.seen)
+      (sym is ∙ sym (ap (λ (known : Known A Entry). known.name) makes.same))
+      ∙ makes.own
+
+  makes_answers : (law : A → List Entry → Entry → Type 0) (pass between later : Known A Entry) (glimpse : Glimpsed Entry)
+      (h inc : ℕ) (taken taken' : Option (List ℕ)) (faults : ℕ) → Learns law pass glimpse between
+      → (answers : Answers between h inc taken taken' faults later) → Makes pass answers.takes.entries later
+  makes_answers law pass between later glimpse h inc taken taken' faults learned answers =
+      makes_more pass between later [] answers.takes.entries (makes_learned law pass between glimpse learned)
+      answers.takes.makes
+
+  -- a sink that was answered
+  pub is_answered : (law : A → List Entry → Entry → Type 0) (pass between later : Known A Entry)
+      (glimpse : Glimpsed Entry) (h inc : ℕ) (taken taken' : Option (List ℕ)) (faults : ℕ) (writer : List ℕ)
+      (seen : List (Signed Entry)) → Learns law pass glimpse between → Answers between h inc taken taken' faults later
+      → pass.name ≡ writer → IsFreshFor inc (own pass) → TookNothing taken → seen ≡ later.seen
+      → IsAnswered writer inc taken' faults seen
+  is_answered law pass between later glimpse h inc taken taken' faults writer seen learned answers is fresh none
+      seen_is =
+      let made = answers.takes.entries in
+      let run = answers.takes.run in
+      let all : under writer seen ≡ own pass ++ made =
+      ap (under writer) seen_is
+      ∙ under_more pass later made writer
+      (makes_answers law pass between later glimpse h inc taken taken' faults learned answers) is in
+      let text : flat_map (text_for inc) (under writer seen) ≡ answers.text =
+      text_more inc (own pass) made (under writer seen) all fresh
+      ∙ (flat_same (IsReplyOf h inc) (text_for inc) text_by (text_same h inc) made run.only ∙ run.text_is) in
+      (
+        subst (λ (text : List ℕ). IsFront taken' faults text) (sym text)
+            (front_of taken taken' faults answers.text none answers.wrote),
+        lasts_more inc (own pass) made (under writer seen) all
+            (any_same (IsReplyOf h inc) (lasts_for inc) lasts_by (lasts_same h inc) made run.only ∙ run.last_is),
+        λ deafened no_fault.
+            let some =
+            answers.why_deaf
+            (sym run.deaf_is
+            ∙ (sym (any_same (IsReplyOf h inc) (deaf_for inc) deaf_by (deaf_same h inc) made run.only)
+            ∙ (sym (deaf_more inc (own pass) made (under writer seen) all fresh) ∙ deafened))) in
+            absurd (omega (arith, some, no_fault)),
+      )
+
+  pub serves_one : (law : A → List Entry → Entry → Type 0) (pass between later then : Known A Entry)
+      (glimpse : Glimpsed Entry) (h inc : ℕ) (taken taken' : Option (List ℕ)) (faults : ℕ)
+      → Learns law pass glimpse between → Answers between h inc taken taken' faults later → then ≡ later
+      → ServesOne h inc pass then
+  serves_one law pass between later then glimpse h inc taken taken' faults learned answers is =
+      record {
+        served = record { inc = inc; entries = answers.takes.entries };
+        inc_is = refl;
+        makes =
+            subst (λ (last : Known A Entry). Makes pass answers.takes.entries last) (sym is)
+            (makes_answers law pass between later glimpse h inc taken taken' faults learned answers);
+        good = record { text = answers.text; gone_deaf = answers.gone_deaf; run = answers.takes.run };
+      }
+
+  -- a sink that took nothing, of a helper that was told deaf as the daemon was ended
+  makes_deaf : (law : A → List Entry → Entry → Type 0) (pass between later : Known A Entry)
+      (glimpse : Glimpsed Entry) (h inc : ℕ) → Learns law pass glimpse between
+      → Enters law between (HelperDeaf h inc) later → Makes pass (HelperDeaf h inc ∷ []) later
+  makes_deaf law pass between later glimpse h inc learned entered =
+      makes_more pass between later [] (HelperDeaf h inc ∷ []) (makes_learned law pass between glimpse learned)
+      (makes_one law between later (HelperDeaf h inc) entered)
+
+  pub deafens_one : (law : A → List Entry → Entry → Type 0) (pass between later then : Known A Entry)
+      (glimpse : Glimpsed Entry) (h inc : ℕ) → Learns law pass glimpse between
+      → Enters law between (HelperDeaf h inc) later → then ≡ later → Makes pass (HelperDeaf h inc ∷ []) then
+  deafens_one law pass between later then glimpse h inc learned entered is =
+      subst (λ (last : Known A Entry). Makes pass (HelperDeaf h inc ∷ []) last) (sym is)
+      (makes_deaf law pass between later glimpse h inc learned entered)
+
+  pub is_deafened : (law : A → List Entry → Entry → Type 0) (pass between later : Known A Entry)
+      (glimpse : Glimpsed Entry) (h inc : ℕ) (taken : Option (List ℕ)) (faults : ℕ) (writer : List ℕ)
+      (seen : List (Signed Entry)) → Learns law pass glimpse between → Enters law between (HelperDeaf h inc) later
+      → pass.name ≡ writer → IsFreshFor inc (own pass) → TookNothing taken → HasStop pass.seen → seen ≡ later.seen
+      → IsAnswered writer inc taken faults seen
+  is_deafened law pass between later glimpse h inc taken faults writer seen learned entered is fresh none stops
+      seen_is =
+      let made : List Entry = HelperDeaf h inc ∷ [] in
+      let makes = makes_deaf law pass between later glimpse h inc learned entered in
+      let all : under writer seen ≡ own pass ++ made =
+      ap (under writer) seen_is ∙ under_more pass later made writer makes is in
+      (
+        subst (λ (text : List ℕ). IsFront taken faults text)
+            (sym (text_more inc (own pass) made (under writer seen) all fresh)) (front_nothing taken faults none),
+        lasts_more inc (own pass) made (under writer seen) all (or_false (inc == inc) ∙ eq-eqb inc inc refl),
+        λ deafened no_fault. stop_stays pass.seen seen (makes.front.0, makes.front.1 ∙ sym seen_is) stops,
+      )
+
+  -- the daemon was ended
+  pub stopped : (law : A → List Entry → Entry → Type 0) (pass later then : Known A Entry)
+      → Enters law pass Stopped later → then ≡ later → Makes pass (Stopped ∷ []) then
+  stopped law pass later then entered is =
+      subst (λ (last : Known A Entry). Makes pass (Stopped ∷ []) last) (sym is)
+      (makes_one law pass later Stopped entered)
+
+  pub has_stopped : (law : A → List Entry → Entry → Type 0) (pass later : Known A Entry) (seen : List (Signed Entry))
+      → Enters law pass Stopped later → seen ≡ later.seen → HasStop seen
+  has_stopped law pass later seen entered is =
+      let before : List (Signed Entry) = pass.seen ++ entered.between in
+      let last : List (Signed Entry) = signed pass.name Stopped ∷ [] in
+      ap (λ (all : List (Signed Entry)). list_any is_stop (entries all)) (is ∙ entered.seen)
+      ∙ (ap (list_any is_stop) (map-append (λ (made : Signed Entry). made.entry) before last)
+      ∙ (list_any-append is_stop (entries before) (entries last) ∙ or_true (list_any is_stop (entries before))))
