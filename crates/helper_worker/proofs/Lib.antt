@@ -4,3 +4,5 @@ pub mod HeardLemmas
 pub mod ReplyLemmas
 pub mod HandingLemmas
 pub mod ServingLemmas
+pub mod VisitLemmas
+pub mod RoundLemmas

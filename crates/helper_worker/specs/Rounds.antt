@@ -80,16 +80,17 @@ failures_in [] = 0
 failures_in (round ∷ rounds) = failures_of round + failures_in rounds
 
 -- lines of one incarnation were entered, which are those that it gave
-pub record IsVisit (h inc : ℕ) (lines : List Entry) (ends : Ends) : Type 0 where
+pub record IsVisit (h inc : ℕ) (lines : List Entry) (given : Option (List ℕ)) (ended : Bool) (faults : ℕ)
+    : Type 0 where
   pub bytes : List ℕ
-  pub given : Grows (Some []) ends.given bytes
+  pub gives : Grows (Some []) given bytes
   pub taken : List Line
   pub late : Bool
   pub run : LineRun h inc taken late lines
-  pub heard : IsHeard bytes taken late ends.ended ends.faults
+  pub heard : IsHeard bytes taken late ended faults
 
 abbrev pub IsOutcome : ℕ → ℕ → Outcome → Type 0
-IsOutcome h inc (Heard lines ends) = IsVisit h inc lines ends
+IsOutcome h inc (Heard lines ends) = IsVisit h inc lines ends.given ends.ended ends.faults
 IsOutcome h inc Failed = ⊤
 
 -- an answer by which nothing is started, and more may be asked
@@ -104,18 +105,19 @@ abbrev pub IsRound : ℕ → Option (ℕ → Bool) → Round → Type 0
 IsRound h moments (Start now inc run outcome) = MayRead moments now × IsOutcome h inc outcome
 IsRound h moments (Idle now given) = MayRead moments now × IsIdle given
 
--- a sink came back from the replier, or it took nothing as the replier was called off
-abbrev pub IsBack : List ℕ → ℕ → Ends → List (Signed Entry) → Type 0
-IsBack writer inc ends seen =
-    IsAnswered writer inc ends.taken ends.sink_faults seen ⊎ (TookNothing ends.taken × HasStop seen)
-
--- a history has at its front one by which a sink came back, in which a name has made no more than these entries
-pub record IsBackBy (writer name : List ℕ) (made : List Entry) (inc : ℕ) (ends : Ends) (seen : List (Signed Entry))
+-- a history has at its front one by which a sink came back from the replier, or it took nothing as the replier was
+-- called off
+pub record IsSinkBack (writer : List ℕ) (inc : ℕ) (taken : Option (List ℕ)) (faults : ℕ) (seen : List (Signed Entry))
     : Type 0 where
   pub before : List (Signed Entry)
   pub front : IsPrefix before seen
-  pub made_by_then : IsPrefix (under name before) made
-  pub back : IsBack writer inc ends before
+  pub back : IsAnswered writer inc taken faults before ⊎ (TookNothing taken × HasStop before)
+
+-- and in which a name has made no more than these entries
+pub record IsBackBy (writer : List ℕ) (inc : ℕ) (ends : Ends) (name : List ℕ) (made : List Entry)
+    (seen : List (Signed Entry)) : Type 0 where
+  pub sink : IsSinkBack writer inc ends.taken ends.sink_faults seen
+  pub made_by_then : IsPrefix (under name sink.before) made
 
 module _ {X : Type 0} where
   -- the told list grows by items where they are told, and tells nothing more where one isn't
@@ -140,14 +142,19 @@ pub record Tells (old new : Told) (rounds : List Round) : Type 0 where
   pub failed : GoesBy (λ count. count + failures_in rounds) old.failed new.failed
 
 module _ {A : Type 0} where
+  -- a pass entered the lines of a new helper and that it is gone
+  pub record HearsOut (h inc : ℕ) (given : Option (List ℕ)) (ended : Bool) (faults : ℕ) (pass later : Known A Entry)
+      : Type 0 where
+    pub lines : List Entry
+    pub makes : Makes pass (lines ++ HelperGone h inc ∷ []) later
+    pub visit : IsVisit h inc lines given ended faults
+
   -- a pass entered the lines of a helper and that it is gone, and its sink has come back
   pub record Attends (h : ℕ) (writer : List ℕ) (inc : ℕ) (ends : Ends) (pass later : Known A Entry) : Type 0 where
     pub lines : List Entry
     pub makes : Makes pass (lines ++ HelperGone h inc ∷ []) later
-    pub visit : IsVisit h inc lines ends
-    pub before : List (Signed Entry)
-    pub front : IsPrefix before later.seen
-    pub back : IsBack writer inc ends before
+    pub visit : IsVisit h inc lines ends.given ends.ended ends.faults
+    pub back : IsSinkBack writer inc ends.taken ends.sink_faults later.seen
 
   -- a pass made what comes behind a Go
   pub record Visits (h : ℕ) (writer : List ℕ) (inc : ℕ) (run : List ℕ) (old new : Told) (pass later : Known A Entry)
@@ -159,15 +166,15 @@ module _ {A : Type 0} where
     pub asked : GathersAll old.asked new.asked (Some run ∷ [])
     pub failed : GoesBy (λ count. count + failures_by outcome) old.failed new.failed
     pub back : (lines : List Entry) (ends : Ends) → outcome ≡ Heard lines ends
-        → (before : List (Signed Entry)) × IsPrefix before later.seen × IsBack writer inc ends before
+        → IsSinkBack writer inc ends.taken ends.sink_faults later.seen
 
   -- each sink came back before the next round
   abbrev pub AreBack : ℕ → List ℕ → List Round → Known A Entry → Known A Entry → Type 0
   AreBack h writer rounds pass later =
       (front back : List Round) (now inc : ℕ) (run : ArrayVec ℕ) (lines : List Entry) (ends : Ends)
       → rounds ≡ (front ++ Start now inc run (Heard lines ends) ∷ []) ++ back
-      → IsBackBy writer pass.name
-      (own pass ++ flat_map (entries_of h) (front ++ Start now inc run (Heard lines ends) ∷ [])) inc ends later.seen
+      → IsBackBy writer inc ends pass.name
+      (own pass ++ flat_map (entries_of h) (front ++ Start now inc run (Heard lines ends) ∷ [])) later.seen
 
   -- a pass made the entries of rounds, and last these
   pub record Reads (h : ℕ) (writer : List ℕ) (moments : Option (ℕ → Bool)) (old new : Told) (last : List Entry)

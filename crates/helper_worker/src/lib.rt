@@ -12,7 +12,18 @@ mod errand;
 mod handover;
 mod hearing;
 mod line;
+mod pairing;
 mod piece;
+mod reader;
+mod reading;
+mod replier;
 mod replying;
 mod serving;
 mod texts;
+mod visiting;
+
+pub use errand::{Errand, Off, Return};
+pub use handover::{Fetched, Handover, Unhanded};
+pub use pairing::{Apart, Pair, make_pair, take_apart};
+pub use reader::Reader;
+pub use replier::Replier;

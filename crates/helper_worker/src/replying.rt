@@ -93,9 +93,8 @@ pub fn refuse<R: Wait, P: Pause, K: Sink + Drop, L: Leash + Drop, N: GateName>(
     ensures fresh { IsFreshBehind last.new (own pass.new) }
 {
     let off = stop(rt, gate, pass);
-    if let Some(errand) = handover.call_off(rt, off) {
-        refuse_one(rt, gate, pass, h, handover, last, errand);
-    }
+    let found = handover.call_off(rt, off);
+    refuse_one(rt, gate, pass, h, handover, last, found);
     pause.at(Seat::Reader(h)).ring();
 }
 
@@ -114,7 +113,7 @@ fn stop<R: Wait, N: GateName>(rt: &R, gate: &Gate<Book>, pass: &mut Pass<Book>) 
     }
 }
 
-// Hands a helper back that isn't answered.
+// Hands a helper back that isn't answered, if there is one.
 fn refuse_one<R: Wait, K: Sink + Drop, L: Leash + Drop, N: GateName>(
     rt: &R,
     gate: &Gate<Book>,
@@ -122,7 +121,7 @@ fn refuse_one<R: Wait, K: Sink + Drop, L: Leash + Drop, N: GateName>(
     h: usize,
     handover: &Handover<K, L, N>,
     last: &mut u64,
-    errand: Errand<K, L, N>,
+    found: Option<Errand<K, L, N>>,
 )
     requires named { gate.now ≡ N.gate }
     requires gate { pass.old.gate ≡ gate.now }
@@ -133,6 +132,7 @@ fn refuse_one<R: Wait, K: Sink + Drop, L: Leash + Drop, N: GateName>(
     ensures refuses { Refuses h last.old last.new pass.old pass.new }
     ensures fresh { IsFreshBehind last.new (own pass.new) }
 {
+    let Some(errand) = found else { return };
     if errand.inc <= *last {
         return;
     }

@@ -1,13 +1,12 @@
 //! One helper.
-ghost use Rattle.std.specs.Prelude.{◌≡◌, ◌<◌, ◌∷◌, ◌++◌, []};
+ghost use Rattle.std.specs.Prelude.{◌≡◌, ◌<◌, [], IfSome};
 ghost use Rattle.config_model.specs.Limits.{max_helpers};
 ghost use Rattle.outside.specs.Told.{GaveNothing};
 ghost use Rattle.pass_entries.specs.Making.{Makes};
-ghost use Rattle.helper_worker.specs.Handing.{IsAnswered, TookNothing};
-ghost use Rattle.helper_worker.specs.Hearing.{HearsOut};
-ghost use Rattle.helper_worker.specs.Rounds.{Attends, IsFetched, IsKept, Visits, ends_of, told};
+ghost use Rattle.helper_worker.specs.Handing.{HasStop, TookNothing};
+ghost use Rattle.helper_worker.specs.Rounds.{Attends, HearsOut, IsSinkBack, Visits, ends_of, told};
 
-use crate::errand::{Errand, Return};
+use crate::errand::{Errand, Off, Return};
 use crate::handover::{Handover, Unhanded};
 use crate::hearing::hear;
 use book_core::{Book, GoneCall};
@@ -86,17 +85,38 @@ fn attend<R: Wait, P: Pause, S: Source + Drop, K: Sink + Drop, L: Leash + Drop, 
         sink,
         leash,
     } = pipes;
-    let kept = hand_over(rt, gate, pass, pause, h, inc, handover, Held { sink, leash });
+    let held = Held { sink, leash };
+    let kept = hand_over(rt, gate, pass, pause, h, inc, handover, held);
     hear_out(rt, alloc, gate, pass, pause, h, inc, cutter, &mut source);
-    let Held { sink, leash } = match kept {
-        Some(kept) => kept,
-        None => fetch_back(rt, gate, pass, pause, inc, handover),
-    };
+    let Held { sink, leash } = take_back(rt, gate, pass, pause, inc, handover, kept);
     Pipes {
         source,
         sink,
         leash,
     }
+}
+
+// Enters the lines of a new helper, and that it is gone.
+fn hear_out<R: Wait, P: Pause, S: Source>(
+    rt: &R,
+    alloc: Global,
+    gate: &Gate<Book>,
+    pass: &mut Pass<Book>,
+    pause: P,
+    h: usize,
+    inc: u64,
+    cutter: &mut LineCutter,
+    source: &mut S,
+)
+    requires gate { pass.old.gate ≡ gate.now }
+    requires slot { h < max_helpers }
+    requires source { GaveNothing (S.given source.old) }
+    ensures { HearsOut h inc (S.given source.new) (S.ended source.new) (S.faults source.new)
+        pass.old pass.new }
+{
+    hear(rt, alloc, gate, pass, pause, h, inc, cutter, source);
+    gate.enter(rt, pass, GoneCall { h, inc });
+    pause.at(Seat::Replier(h)).ring();
 }
 
 // Hands a sink to the replier. Where that was called off the helper is ended, and the sink stays.
@@ -112,8 +132,9 @@ fn hand_over<R: Wait, P: Pause, K: Sink + Drop, L: Leash + Drop, N: GateName>(
 ) -> Option<Held<K, L>>
     requires named { gate.now ≡ N.gate }
     requires gate { pass.old.gate ≡ gate.now }
-    requires sink { TookNothing (K.taken held.sink) }
-    ensures { IsSome result → .. }
+    requires sink { GaveNothing (K.taken held.sink) }
+    ensures makes { Makes pass.old [] pass.new }
+    ensures kept { IfSome result (λ held. TookNothing (K.taken held.sink) × HasStop pass.new.seen) }
 {
     let Held { sink, leash } = held;
     let glimpse = gate.glimpse(pass);
@@ -130,4 +151,85 @@ fn hand_over<R: Wait, P: Pause, K: Sink + Drop, L: Leash + Drop, N: GateName>(
         return None;
     };
     Some(keep(gate, pass, unhanded))
+}
+
+// Ends a helper whose sink wasn't handed over.
+fn keep<K: Sink + Drop, L: Leash + Drop, N: GateName>(
+    gate: &Gate<Book>,
+    pass: &mut Pass<Book>,
+    unhanded: Unhanded<K, L, N>,
+) -> Held<K, L>
+    requires named { gate.now ≡ N.gate }
+    requires gate { pass.old.gate ≡ gate.now }
+    ensures makes { Makes pass.old [] pass.new }
+    ensures sink { TookNothing (K.taken result.sink) }
+    ensures stops { HasStop pass.new.seen }
+{
+    let Unhanded { errand, off } = unhanded;
+    let Errand {
+        sink,
+        mut leash,
+        inc: _,
+        glimpse: _,
+        name: _,
+    } = errand;
+    let Off { glimpse, name: _ } = off;
+    gate.learn(pass, glimpse);
+    leash.kill();
+    Held { sink, leash }
+}
+
+// The sink of a helper, unless it was kept, once it comes back from the replier.
+fn take_back<R: Wait, P: Pause, K: Sink + Drop, L: Leash + Drop, N: GateName>(
+    rt: &R,
+    gate: &Gate<Book>,
+    pass: &mut Pass<Book>,
+    pause: P,
+    inc: u64,
+    handover: &Handover<K, L, N>,
+    kept: Option<Held<K, L>>,
+) -> Held<K, L>
+    requires named { gate.now ≡ N.gate }
+    requires gate { pass.old.gate ≡ gate.now }
+    requires kept { IfSome kept (λ held. TookNothing (K.taken held.sink) × HasStop pass.old.seen) }
+    ensures makes { Makes pass.old [] pass.new }
+    ensures back { IsSinkBack N.writer inc (K.taken result.sink) (K.faults result.sink)
+        pass.new.seen }
+{
+    if let Some(held) = kept {
+        return held;
+    }
+    for _ in rt.forever() {
+        let Some(done) = handover.take_back(rt) else {
+            pause.wait(IDLE);
+            continue;
+        };
+        if done.inc == inc {
+            return learn_back(gate, pass, done);
+        }
+    }
+    unreachable!()
+}
+
+// The sink that the replier has handed back.
+fn learn_back<K: Sink + Drop, L: Leash + Drop, N: GateName>(
+    gate: &Gate<Book>,
+    pass: &mut Pass<Book>,
+    done: Return<K, L, N>,
+) -> Held<K, L>
+    requires named { gate.now ≡ N.gate }
+    requires gate { pass.old.gate ≡ gate.now }
+    ensures makes { Makes pass.old [] pass.new }
+    ensures back { IsSinkBack N.writer done.inc (K.taken result.sink) (K.faults result.sink)
+        pass.new.seen }
+{
+    let Return {
+        sink,
+        leash,
+        inc: _,
+        glimpse,
+        name: _,
+    } = done;
+    gate.learn(pass, glimpse);
+    Held { sink, leash }
 }
