@@ -141,21 +141,21 @@ BackIn writer round seen =
     (now inc : ℕ) (run : ArrayVec ℕ) (lines : List Entry) (ends : Ends) → round ≡ Start now inc run (Heard lines ends)
     → IsSinkBack writer inc ends.taken ends.sink_faults seen
 
-module _ {A : Type 0} where
-  back_later : (writer : List ℕ) (inc : ℕ) (ends : Ends) (name : List ℕ) (made : List Entry)
-      (seen seen' : List (Signed Entry)) → IsPrefix seen seen' → IsBackBy writer inc ends name made seen
-      → IsBackBy writer inc ends name made seen'
-  back_later writer inc ends name made seen seen' more by =
-      record {
-        sink =
-            record {
-              before = by.sink.before;
-              front = prefix_on by.sink.before seen seen' by.sink.front more;
-              back = by.sink.back;
-            };
-        made_by_then = by.made_by_then;
-      }
+back_later : (writer : List ℕ) (inc : ℕ) (ends : Ends) (name : List ℕ) (made : List Entry)
+    (seen seen' : List (Signed Entry)) → IsPrefix seen seen' → IsBackBy writer inc ends name made seen
+    → IsBackBy writer inc ends name made seen'
+back_later writer inc ends name made seen seen' more by =
+    record {
+      sink =
+          record {
+            before = by.sink.before;
+            front = prefix_on by.sink.before seen seen' by.sink.front more;
+            back = by.sink.back;
+          };
+      made_by_then = by.made_by_then;
+    }
 
+module _ {A : Type 0} where
   back_now : (pass later : Known A Entry) (writer : List ℕ) (inc : ℕ) (ends : Ends) (made : List Entry)
       → Makes pass made later → IsSinkBack writer inc ends.taken ends.sink_faults later.seen
       → IsBackBy writer inc ends pass.name (own pass ++ made) later.seen
@@ -241,18 +241,26 @@ module _ {A : Type 0} where
   -- a helper was to be started
   pub reads_start : (law : A → List Entry → Entry → Type 0) (h : ℕ) (writer : List ℕ) (moments : Option (ℕ → Bool))
       (old mid new : Told) (pass between asked later : Known A Entry) (now inc : ℕ) (run : ArrayVec ℕ)
-      → Reads h writer moments old mid [] pass between
-      → Enters law between (SpawnAsked h now (spawn.Go inc run)) asked → MayRead moments now
-      → Visits h writer inc run.items mid new asked later → Reads h writer moments old new [] pass later
-  reads_start law h writer moments old mid new pass between asked later now inc run reads entered moment visits =
+      (words : List ℕ) → Reads h writer moments old mid [] pass between
+      → Enters law between (SpawnAsked h now (spawn.Go inc run)) asked → MayRead moments now → words ≡ run.items
+      → Visits h writer inc words mid new asked later → Reads h writer moments old new [] pass later
+  reads_start law h writer moments old mid new pass between asked later now inc run words reads entered moment same
+      visits =
       reads_round h writer moments old mid new pass between later (Start now inc run visits.outcome) reads
       (makes_more between asked later (SpawnAsked h now (spawn.Go inc run) ∷ []) (made_by h inc visits.outcome)
       (makes_one law between asked (SpawnAsked h now (spawn.Go inc run)) entered) visits.makes)
       (moment, visits.good)
-      (record { children = visits.children; asked = visits.asked; failed = visits.failed })
+      (record {
+        children = visits.children;
+        asked =
+            subst (λ (words : List ℕ). GathersAll mid.asked new.asked (Some words ∷ [])) same visits.asked;
+        failed = visits.failed;
+      })
       (λ other number words lines ends is.
-          subst (λ (number : ℕ). IsSinkBack writer number ends.taken ends.sink_faults later.seen) (cc (is))
-          (visits.back lines ends (cc (is))))
+          let same : inc ≡ number = cc (is) in
+          let heard : visits.outcome ≡ Heard lines ends = cc (is) in
+          subst (λ (number : ℕ). IsSinkBack writer number ends.taken ends.sink_faults later.seen) same
+          (visits.back lines ends heard))
 
   -- the daemon is to end
   pub reads_out : (law : A → List Entry → Entry → Type 0) (h : ℕ) (writer : List ℕ) (moments : Option (ℕ → Bool))

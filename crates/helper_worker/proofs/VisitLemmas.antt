@@ -1,5 +1,5 @@
 -- One helper of a reader.
-use Rattle.std.proofs.Common.{ℕ, ◌≡◌, Bool, true, false, true≢false, List, [], ◌∷◌, ◌++◌, Option, Some, None, map, inl, inr, arith, ◌+◌, refl, ap, sym, subst, ◌∙◌, append_assoc, append-nil}
+use Rattle.std.proofs.Common.{ℕ, ◌≡◌, Bool, true, false, true≢false, List, [], ◌∷◌, ◌++◌, Option, Some, None, IfSome, map, inl, inr, arith, ◌+◌, refl, ap, sym, subst, ◌∙◌, append_assoc, append-nil}
 use Rattle.std.proofs.lemmas.List.{map-append}
 use mathlib.Core.List.{IsPrefix}
 use Rattle.outside.specs.Ended.{EndedChild, Gathers, child_of}
@@ -63,6 +63,17 @@ module _ {X : Type 0} where
       ∙ (ap (λ (front : List (Option X)). front ++ second) one
       ∙ append_assoc (map (λ (item : X). Some item) was) first second)
 
+pub sink_kept : (writer : List ℕ) (inc : ℕ) (taken : Option (List ℕ)) (faults : ℕ) (seen : List (Signed Entry))
+    → TookNothing taken → HasStop seen → IsSinkBack writer inc taken faults seen
+sink_kept writer inc taken faults seen none stops =
+    record { before = seen; front = ([], append-nil seen); back = inr (none, stops) }
+
+-- a sink that was kept took nothing still
+pub kept_stays : {X : Type 0} (kept : Option X) (took : X → Type 0) (seen seen' : List (Signed Entry))
+    → IsPrefix seen seen' → IfSome kept (λ held. took held × HasStop seen) → IfSome kept (λ held. took held × HasStop seen')
+kept_stays None took seen seen' more keeps = keeps
+kept_stays (Some held) took seen seen' more keeps = (keeps.0, stop_stays seen seen' more keeps.1)
+
 module _ {A : Type 0} where
   pub hears_out : (law : A → List Entry → Entry → Type 0) (pass between later : Known A Entry) (h inc : ℕ)
       (given given' : Option (List ℕ)) (ended : Bool) (faults : ℕ) → Hears pass h inc given given' ended faults between
@@ -83,11 +94,6 @@ module _ {A : Type 0} where
               heard = hears.heard;
             };
       }
-
-  pub sink_kept : (writer : List ℕ) (inc : ℕ) (taken : Option (List ℕ)) (faults : ℕ) (seen : List (Signed Entry))
-      → TookNothing taken → HasStop seen → IsSinkBack writer inc taken faults seen
-  sink_kept writer inc taken faults seen none stops =
-      record { before = seen; front = ([], append-nil seen); back = inr (none, stops) }
 
   pub sink_learned : (law : A → List Entry → Entry → Type 0) (pass later : Known A Entry) (glimpse : Glimpsed Entry)
       (writer : List ℕ) (inc : ℕ) (taken : Option (List ℕ)) (faults : ℕ) → Learns law pass glimpse later
@@ -131,12 +137,12 @@ module _ {A : Type 0} where
       → asked'' ≡ asked' → GoesBy (λ count. count) failed failed' → failed'' ≡ failed'
       → Visits h writer inc run (told children asked failed) (told children'' asked'' failed'') pass later
   visits_heard pass later h writer inc run given ended faults taken sink_faults children children' children'' asked
-      asked' asked'' failed failed' failed'' attends same gathers asks same_asked goes same_failed =
+      asked' asked'' failed failed' failed'' attended same gathers asks same_asked goes same_failed =
       let ends : Ends = ends_of given ended faults taken sink_faults in
       record {
-        outcome = Heard attends.lines ends;
-        makes = attends.makes;
-        good = attends.visit;
+        outcome = Heard attended.lines ends;
+        makes = attended.makes;
+        good = attended.visit;
         children =
             subst (λ (from : Option (List EndedChild)). GathersAll from children'' (child_of given ended faults taken
             sink_faults ∷ [])) same
@@ -148,7 +154,8 @@ module _ {A : Type 0} where
             subst (λ (to : Option ℕ). GoesBy (λ count. count + 0) failed to) (sym same_failed)
             (goes_on failed failed' goes);
         back = λ lines last is.
-            subst (λ (last : Ends). IsSinkBack writer inc last.taken last.sink_faults later.seen) (cc (is)) attends.back;
+            let same : ends ≡ last = cc (is) in
+            subst (λ (last : Ends). IsSinkBack writer inc last.taken last.sink_faults later.seen) same attended.back;
       }
 
   pub visits_failed : (law : A → List Entry → Entry → Type 0) (pass later : Known A Entry) (h : ℕ) (writer : List ℕ)

@@ -9,5 +9,5 @@ returns-in-Open g c =
 
 pub returns-in-Failed : goal.returns-in-Failed
 returns-in-Failed g c =
-    visits_failed _ _ _ _ _ _ _ _ _ _ _ _ _ c.enter-in-Failed.ensures.entered c.in-Failed.ensures.children
+    visits_failed _ _ _ _ _ _ _ _ _ _ _ _ _ c.enter.ensures.entered c.in-Failed.ensures.children
     c.in-Failed.ensures.asked c.in-Failed.ensures.failed
