@@ -28,11 +28,10 @@ use Rattle.helper_worker.proofs.VisitLemmas.{gathers_more, gathers_none}
 
 module _ {X : Type 0} where
   prefix_on : (front mid whole : List X) → IsPrefix front mid → IsPrefix mid whole → IsPrefix front whole
-  prefix_on front mid whole (first, is) (second, whole_is) =
-      (
-        first ++ second,
-        sym (append_assoc front first second) ∙ (ap (λ (begun : List X). begun ++ second) is ∙ whole_is),
-      )
+  prefix_on front mid whole (first, is) (second, whole_is) = (
+    first ++ second,
+    sym (append_assoc front first second) ∙ (ap (λ (begun : List X). begun ++ second) is ∙ whole_is),
+  )
 
   -- an item that stands in a list with one more item is that item, or stands before it
   item_of : (front all back : List X) (item last : X) → all ++ last ∷ [] ≡ (front ++ item ∷ []) ++ back
@@ -42,8 +41,12 @@ module _ {X : Type 0} where
       inr (all, ap (λ (first : X). first ∷ all) (cc (is)))
   item_of (first ∷ front) [] back item last is =
       absurd
-      (omega (arith, ap length is, length-append ((first ∷ front) ++ item ∷ []) back,
-      length-append (first ∷ front) (item ∷ [])))
+      (omega (
+        arith,
+        ap length is,
+        length-append ((first ∷ front) ++ item ∷ []) back,
+        length-append (first ∷ front) (item ∷ []),
+      ))
   item_of (first ∷ front) (other ∷ all) back item last is =
       next (cc (is)) (item_of front all back item last (cc (is)))
     where
@@ -56,13 +59,12 @@ module _ {X : Type 0} where
 -- the entries under a name in the front of a history
 under_prefix : (name : List ℕ) (front whole : List (Signed Entry)) → IsPrefix front whole
     → IsPrefix (under name front) (under name whole)
-under_prefix name front whole (rest, is) =
-    (
-      under name rest,
-      sym (map-append (λ (made : Signed Entry). made.entry) (entries_by name front) (entries_by name rest))
-          ∙ (ap entries (sym (filter-append (λ (made : Signed Entry). is_name name made.name) front rest))
-          ∙ ap (under name) is),
-    )
+under_prefix name front whole (rest, is) = (
+  under name rest,
+  sym (map-append (λ (made : Signed Entry). made.entry) (entries_by name front) (entries_by name rest))
+      ∙ (ap entries (sym (filter-append (λ (made : Signed Entry). is_name name made.name) front rest))
+      ∙ ap (under name) is),
+)
 
 entries_next : (h : ℕ) (rounds : List Round) (round : Round)
     → flat_map (entries_of h) (rounds ++ round ∷ []) ≡ flat_map (entries_of h) rounds ++ entries_of h round
@@ -136,15 +138,15 @@ not_started : (now other inc : ℕ) (given : Spawn) (run : ArrayVec ℕ) (outcom
 not_started now other inc given run outcome is = true≢false (sym (ap is_start is))
 
 -- what a round has, if a sink came back in it
-abbrev BackIn : List ℕ → Round → List (Signed Entry) → Type 0
-BackIn writer round seen =
+abbrev BackIn : List ℕ → ℕ → Round → List (Signed Entry) → Type 0
+BackIn writer h round seen =
     (now inc : ℕ) (run : ArrayVec ℕ) (lines : List Entry) (ends : Ends) → round ≡ Start now inc run (Heard lines ends)
-    → IsSinkBack writer inc ends.taken ends.sink_faults seen
+    → IsSinkBack writer h inc ends.taken ends.sink_faults seen
 
-back_later : (writer : List ℕ) (inc : ℕ) (ends : Ends) (name : List ℕ) (made : List Entry)
-    (seen seen' : List (Signed Entry)) → IsPrefix seen seen' → IsBackBy writer inc ends name made seen
-    → IsBackBy writer inc ends name made seen'
-back_later writer inc ends name made seen seen' more by =
+back_later : (writer : List ℕ) (h inc : ℕ) (ends : Ends) (name : List ℕ) (made : List Entry)
+    (seen seen' : List (Signed Entry)) → IsPrefix seen seen' → IsBackBy writer h inc ends name made seen
+    → IsBackBy writer h inc ends name made seen'
+back_later writer h inc ends name made seen seen' more by =
     record {
       sink =
           record {
@@ -156,10 +158,10 @@ back_later writer inc ends name made seen seen' more by =
     }
 
 module _ {A : Type 0} where
-  back_now : (pass later : Known A Entry) (writer : List ℕ) (inc : ℕ) (ends : Ends) (made : List Entry)
-      → Makes pass made later → IsSinkBack writer inc ends.taken ends.sink_faults later.seen
-      → IsBackBy writer inc ends pass.name (own pass ++ made) later.seen
-  back_now pass later writer inc ends made makes sink =
+  back_now : (pass later : Known A Entry) (writer : List ℕ) (h inc : ℕ) (ends : Ends) (made : List Entry)
+      → Makes pass made later → IsSinkBack writer h inc ends.taken ends.sink_faults later.seen
+      → IsBackBy writer h inc ends pass.name (own pass ++ made) later.seen
+  back_now pass later writer h inc ends made makes sink =
       record {
         sink = sink;
         made_by_then =
@@ -171,23 +173,23 @@ module _ {A : Type 0} where
 
   backs_next : (h : ℕ) (writer : List ℕ) (rounds : List Round) (round : Round) (pass mid later : Known A Entry)
       → AreBack h writer rounds pass mid → IsPrefix mid.seen later.seen
-      → Makes pass (flat_map (entries_of h) (rounds ++ round ∷ [])) later → BackIn writer round later.seen
+      → Makes pass (flat_map (entries_of h) (rounds ++ round ∷ [])) later → BackIn writer h round later.seen
       → AreBack h writer (rounds ++ round ∷ []) pass later
   backs_next h writer rounds round pass mid later backs more makes one front back now inc run lines ends is =
       found (item_of front rounds back (Start now inc run (Heard lines ends)) round is)
     where
       found : ((rounds ≡ front) × (round ≡ Start now inc run (Heard lines ends)))
           ⊎ ((rest : List Round) × (rounds ≡ (front ++ Start now inc run (Heard lines ends) ∷ []) ++ rest))
-          → IsBackBy writer inc ends pass.name
+          → IsBackBy writer h inc ends pass.name
           (own pass ++ flat_map (entries_of h) (front ++ Start now inc run (Heard lines ends) ∷ [])) later.seen
       found (inl (same, last)) =
-          back_now pass later writer inc ends
+          back_now pass later writer h inc ends
           (flat_map (entries_of h) (front ++ Start now inc run (Heard lines ends) ∷ []))
           (subst (λ (made : List Entry). Makes pass made later)
           (ap₂ (λ (all : List Round) (item : Round). flat_map (entries_of h) (all ++ item ∷ [])) same last) makes)
           (one now inc run lines ends last)
       found (inr (rest, before)) =
-          back_later writer inc ends pass.name
+          back_later writer h inc ends pass.name
           (own pass ++ flat_map (entries_of h) (front ++ Start now inc run (Heard lines ends) ∷ [])) mid.seen later.seen
           more (backs front rest now inc run lines ends before)
 
@@ -205,7 +207,7 @@ module _ {A : Type 0} where
   reads_round : (h : ℕ) (writer : List ℕ) (moments : Option (ℕ → Bool)) (old mid new : Told)
       (pass between later : Known A Entry) (round : Round) → Reads h writer moments old mid [] pass between
       → Makes between (entries_of h round) later → IsRound h moments round → TellsOne mid new round
-      → BackIn writer round later.seen → Reads h writer moments old new [] pass later
+      → BackIn writer h round later.seen → Reads h writer moments old new [] pass later
   reads_round h writer moments old mid new pass between later round reads makes good tells back =
       let all : Makes pass (flat_map (entries_of h) (reads.rounds ++ round ∷ [])) later =
       subst (λ (made : List Entry). Makes pass made later)
@@ -257,10 +259,10 @@ module _ {A : Type 0} where
         failed = visits.failed;
       })
       (λ other number words lines ends is.
-          let same : inc ≡ number = cc (is) in
-          let heard : visits.outcome ≡ Heard lines ends = cc (is) in
-          subst (λ (number : ℕ). IsSinkBack writer number ends.taken ends.sink_faults later.seen) same
-          (visits.back lines ends heard))
+      let same : inc ≡ number = cc (is) in
+      let heard : visits.outcome ≡ Heard lines ends = cc (is) in
+      subst (λ (number : ℕ). IsSinkBack writer h number ends.taken ends.sink_faults later.seen) same
+      (visits.back lines ends heard))
 
   -- the daemon is to end
   pub reads_out : (law : A → List Entry → Entry → Type 0) (h : ℕ) (writer : List ℕ) (moments : Option (ℕ → Bool))
@@ -284,7 +286,7 @@ module _ {A : Type 0} where
               good = reads.good;
               tells = reads.tells;
               back = λ front back now inc run lines ends is.
-                  back_later writer inc ends pass.name
+                  back_later writer h inc ends pass.name
                   (own pass ++ flat_map (entries_of h) (front ++ Start now inc run (Heard lines ends) ∷ []))
                   between.seen later.seen last.front (reads.back front back now inc run lines ends is);
             };

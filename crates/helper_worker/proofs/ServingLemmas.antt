@@ -8,10 +8,11 @@ use Rattle.book_history.specs.Entries.Entry.{HelperDeaf, Stopped}
 use Rattle.book_gate.specs.Known.{Known}
 use Rattle.pass_entries.specs.Making.{Makes, own}
 use Rattle.pass_entries.proofs.MakingLemmas.{makes_more, makes_none}
-use Rattle.helper_worker.specs.Handing.{deaf_for, text_for}
+use Rattle.helper_worker.specs.Handing.{deaf_for, replies_for, text_for}
 use Rattle.helper_worker.specs.Replies.{IsReplyOf}
-use Rattle.helper_worker.specs.Serving.{CallsOff, IsFreshBehind, IsServed, Refuses, Rises, Served, Serves, ServesOne, entries_in}
-use Rattle.helper_worker.proofs.HandingLemmas.{any_none, deaf_more, deaf_other, flat_none, text_more, text_other}
+use Rattle.helper_worker.specs.Serving.{CallsOff, IsFreshBehind, IsFreshFor, IsServed, Refuses, Rises, Served, Serves, ServesOne, entries_in}
+use Rattle.helper_worker.proofs.HandingLemmas.{any_none, deaf_more, deaf_other, flat_none, replies_more, replies_other, text_more}
+use Rattle.helper_worker.proofs.HandingLemmas.{text_other}
 
 rises_both : (last mid now : ℕ) (front back : List Served) → Rises last front mid → Rises mid back now
     → Rises last (front ++ back) now
@@ -21,20 +22,20 @@ rises_both last mid now (served ∷ front) back one other =
 
 pub fresh_none : (last : ℕ) (made : List Entry) → made ≡ [] → IsFreshBehind last made
 fresh_none last made is inc below =
-    subst (λ (made : List Entry). (flat_map (text_for inc) made ≡ []) × (list_any (deaf_for inc) made ≡ false))
-    (sym is) (refl, refl)
+    subst (λ (made : List Entry). IsFreshFor inc made) (sym is) (refl, refl, refl)
 
 module _ {A : Type 0} where
   -- behind the entries of an incarnation nothing was taken for a later one
   fresh_behind : (pass later : Known A Entry) (h last inc : ℕ) (made : List Entry) → IsFreshBehind last (own pass)
       → last < inc → All (IsReplyOf h inc) made → Makes pass made later → IsFreshBehind inc (own later)
-  fresh_behind pass later h last inc made fresh above only makes other below =
-      (
-        text_more other (own pass) made (own later) makes.own (fresh other (omega (arith, above, below)))
-            ∙ flat_none (IsReplyOf h inc) (text_for other) (text_other h inc other below) made only,
-        deaf_more other (own pass) made (own later) makes.own (fresh other (omega (arith, above, below)))
-            ∙ any_none (IsReplyOf h inc) (deaf_for other) (deaf_other h inc other below) made only,
-      )
+  fresh_behind pass later h last inc made fresh above only makes other below = (
+    text_more other (own pass) made (own later) makes.own (fresh other (omega (arith, above, below)))
+        ∙ flat_none (IsReplyOf h inc) (text_for other) (text_other h inc other below) made only,
+    deaf_more other (own pass) made (own later) makes.own (fresh other (omega (arith, above, below)))
+        ∙ any_none (IsReplyOf h inc) (deaf_for other) (deaf_other h inc other below) made only,
+    replies_more other (own pass) made (own later) makes.own (fresh other (omega (arith, above, below)))
+        ∙ any_none (IsReplyOf h inc) (replies_for other) (replies_other h inc other below) made only,
+  )
 
   fresh_same : (pass later : Known A Entry) (last : ℕ) → IsFreshBehind last (own pass) → Makes pass [] later
       → IsFreshBehind last (own later)
@@ -85,11 +86,11 @@ module _ {A : Type 0} where
 
   pub fresh_stopped : (pass later : Known A Entry) (last : ℕ) → IsFreshBehind last (own pass)
       → Makes pass (Stopped ∷ []) later → IsFreshBehind last (own later)
-  fresh_stopped pass later last fresh makes inc below =
-      (
-        text_more inc (own pass) (Stopped ∷ []) (own later) makes.own (fresh inc below),
-        deaf_more inc (own pass) (Stopped ∷ []) (own later) makes.own (fresh inc below),
-      )
+  fresh_stopped pass later last fresh makes inc below = (
+    text_more inc (own pass) (Stopped ∷ []) (own later) makes.own (fresh inc below),
+    deaf_more inc (own pass) (Stopped ∷ []) (own later) makes.own (fresh inc below),
+    replies_more inc (own pass) (Stopped ∷ []) (own later) makes.own (fresh inc below),
+  )
 
   pub calls_off : (pass between later : Known A Entry) (h last last' : ℕ) → Makes pass (Stopped ∷ []) between
       → Refuses h last last' between later → CallsOff h last last' pass later

@@ -63,9 +63,9 @@ module _ {X : Type 0} where
       ∙ (ap (λ (front : List (Option X)). front ++ second) one
       ∙ append_assoc (map (λ (item : X). Some item) was) first second)
 
-pub sink_kept : (writer : List ℕ) (inc : ℕ) (taken : Option (List ℕ)) (faults : ℕ) (seen : List (Signed Entry))
-    → TookNothing taken → HasStop seen → IsSinkBack writer inc taken faults seen
-sink_kept writer inc taken faults seen none stops =
+pub sink_kept : (writer : List ℕ) (h inc : ℕ) (taken : Option (List ℕ)) (faults : ℕ) (seen : List (Signed Entry))
+    → TookNothing taken → HasStop seen → IsSinkBack writer h inc taken faults seen
+sink_kept writer h inc taken faults seen none stops =
     record { before = seen; front = ([], append-nil seen); back = inr (none, stops) }
 
 -- a sink that was kept took nothing still
@@ -96,9 +96,9 @@ module _ {A : Type 0} where
       }
 
   pub sink_learned : (law : A → List Entry → Entry → Type 0) (pass later : Known A Entry) (glimpse : Glimpsed Entry)
-      (writer : List ℕ) (inc : ℕ) (taken : Option (List ℕ)) (faults : ℕ) → Learns law pass glimpse later
-      → IsAnswered writer inc taken faults glimpse.seen → IsSinkBack writer inc taken faults later.seen
-  sink_learned law pass later glimpse writer inc taken faults learned answered =
+      (writer : List ℕ) (h inc : ℕ) (taken : Option (List ℕ)) (faults : ℕ) → Learns law pass glimpse later
+      → IsAnswered writer h inc taken faults glimpse.seen → IsSinkBack writer h inc taken faults later.seen
+  sink_learned law pass later glimpse writer h inc taken faults learned answered =
       record { before = glimpse.seen; front = learned.theirs; back = inl answered }
 
   pub stop_learned : (law : A → List Entry → Entry → Type 0) (pass later : Known A Entry) (glimpse : Glimpsed Entry)
@@ -115,7 +115,7 @@ module _ {A : Type 0} where
   pub attends : (pass handed heard later : Known A Entry) (h : ℕ) (writer : List ℕ) (inc : ℕ)
       (given : Option (List ℕ)) (ended : Bool) (faults : ℕ) (taken : Option (List ℕ)) (sink_faults : ℕ)
       → Makes pass [] handed → HearsOut h inc given ended faults handed heard → Makes heard [] later
-      → IsSinkBack writer inc taken sink_faults later.seen
+      → IsSinkBack writer h inc taken sink_faults later.seen
       → Attends h writer inc (ends_of given ended faults taken sink_faults) pass later
   attends pass handed heard later h writer inc given ended faults taken sink_faults hands hears last back =
       record {
@@ -155,7 +155,7 @@ module _ {A : Type 0} where
             (goes_on failed failed' goes);
         back = λ lines last is.
             let same : ends ≡ last = cc (is) in
-            subst (λ (last : Ends). IsSinkBack writer inc last.taken last.sink_faults later.seen) same attended.back;
+            subst (λ (last : Ends). IsSinkBack writer h inc last.taken last.sink_faults later.seen) same attended.back;
       }
 
   pub visits_failed : (law : A → List Entry → Entry → Type 0) (pass later : Known A Entry) (h : ℕ) (writer : List ℕ)

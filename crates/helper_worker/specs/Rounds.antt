@@ -107,16 +107,16 @@ IsRound h moments (Idle now given) = MayRead moments now × IsIdle given
 
 -- a history has at its front one by which a sink came back from the replier, or it took nothing as the replier was
 -- called off
-pub record IsSinkBack (writer : List ℕ) (inc : ℕ) (taken : Option (List ℕ)) (faults : ℕ) (seen : List (Signed Entry))
-    : Type 0 where
+pub record IsSinkBack (writer : List ℕ) (h inc : ℕ) (taken : Option (List ℕ)) (faults : ℕ)
+    (seen : List (Signed Entry)) : Type 0 where
   pub before : List (Signed Entry)
   pub front : IsPrefix before seen
-  pub back : IsAnswered writer inc taken faults before ⊎ (TookNothing taken × HasStop before)
+  pub back : IsAnswered writer h inc taken faults before ⊎ (TookNothing taken × HasStop before)
 
 -- and in which a name has made no more than these entries
-pub record IsBackBy (writer : List ℕ) (inc : ℕ) (ends : Ends) (name : List ℕ) (made : List Entry)
+pub record IsBackBy (writer : List ℕ) (h inc : ℕ) (ends : Ends) (name : List ℕ) (made : List Entry)
     (seen : List (Signed Entry)) : Type 0 where
-  pub sink : IsSinkBack writer inc ends.taken ends.sink_faults seen
+  pub sink : IsSinkBack writer h inc ends.taken ends.sink_faults seen
   pub made_by_then : IsPrefix (under name sink.before) made
 
 module _ {X : Type 0} where
@@ -154,7 +154,7 @@ module _ {A : Type 0} where
     pub lines : List Entry
     pub makes : Makes pass (lines ++ HelperGone h inc ∷ []) later
     pub visit : IsVisit h inc lines ends.given ends.ended ends.faults
-    pub back : IsSinkBack writer inc ends.taken ends.sink_faults later.seen
+    pub back : IsSinkBack writer h inc ends.taken ends.sink_faults later.seen
 
   -- a pass made what comes behind a Go
   pub record Visits (h : ℕ) (writer : List ℕ) (inc : ℕ) (run : List ℕ) (old new : Told) (pass later : Known A Entry)
@@ -166,14 +166,14 @@ module _ {A : Type 0} where
     pub asked : GathersAll old.asked new.asked (Some run ∷ [])
     pub failed : GoesBy (λ count. count + failures_by outcome) old.failed new.failed
     pub back : (lines : List Entry) (ends : Ends) → outcome ≡ Heard lines ends
-        → IsSinkBack writer inc ends.taken ends.sink_faults later.seen
+        → IsSinkBack writer h inc ends.taken ends.sink_faults later.seen
 
   -- each sink came back before the next round
   abbrev pub AreBack : ℕ → List ℕ → List Round → Known A Entry → Known A Entry → Type 0
   AreBack h writer rounds pass later =
       (front back : List Round) (now inc : ℕ) (run : ArrayVec ℕ) (lines : List Entry) (ends : Ends)
       → rounds ≡ (front ++ Start now inc run (Heard lines ends) ∷ []) ++ back
-      → IsBackBy writer inc ends pass.name
+      → IsBackBy writer h inc ends pass.name
       (own pass ++ flat_map (entries_of h) (front ++ Start now inc run (Heard lines ends) ∷ [])) later.seen
 
   -- a pass made the entries of rounds, and last these

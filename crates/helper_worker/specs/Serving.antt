@@ -5,7 +5,7 @@ use Rattle.book_history.specs.Entries.{Entry}
 use Rattle.book_history.specs.Entries.Entry.{HelperDeaf, Stopped}
 use Rattle.book_gate.specs.Known.{Known}
 use Rattle.pass_entries.specs.Making.{Makes}
-use Rattle.helper_worker.specs.Handing.{deaf_for, text_for}
+use Rattle.helper_worker.specs.Handing.{deaf_for, replies_for, text_for}
 use Rattle.helper_worker.specs.Replies.{ReplyRun}
 
 -- the entries of one incarnation
@@ -29,7 +29,9 @@ Rises last (served ∷ more) now = (last < served.inc) × Rises served.inc more 
 
 -- by these entries nothing was taken for an incarnation
 abbrev pub IsFreshFor : ℕ → List Entry → Type 0
-IsFreshFor inc entries = (flat_map (text_for inc) entries ≡ []) × (list_any (deaf_for inc) entries ≡ false)
+IsFreshFor inc entries =
+    (flat_map (text_for inc) entries ≡ []) × (list_any (deaf_for inc) entries ≡ false)
+    × (list_any (replies_for inc) entries ≡ false)
 
 -- by these entries nothing was taken for any later incarnation
 abbrev pub IsFreshBehind : ℕ → List Entry → Type 0

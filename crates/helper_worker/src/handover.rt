@@ -52,11 +52,7 @@ impl<K: Sink + Drop, L: Drop, N: GateName> Handover<K, L, N> {
     }
 
     /// Hands an errand to the replier. It comes back where the replier was called off.
-    pub fn hand<R: Wait>(
-        &self,
-        rt: &R,
-        errand: Errand<K, L, N>,
-    ) -> Option<Unhanded<K, L, N>>
+    pub fn hand<R: Wait>(&self, rt: &R, errand: Errand<K, L, N>) -> Option<Unhanded<K, L, N>>
         ensures { IfSome result (λ unhanded. unhanded.errand ≡ errand) }
     {
         let mut desk = self.desk.lock(rt);

@@ -18,7 +18,10 @@ mod reader;
 mod reading;
 mod replier;
 mod replying;
+mod ringing;
 mod serving;
+#[cfg(test)]
+mod tests;
 mod texts;
 mod visiting;
 

@@ -70,11 +70,13 @@ pub fn make_pair<'g, S: Spawner + Drop, C: Clock + Drop, P: Pause + Drop, N: Gat
 // What a reader has besides, and its and the replier's share of their handover.
 fn shared<S: Spawner, N: GateName>(
     alloc: Global,
-) -> Option<(
-    LineCutter,
-    Arc<Handover<S::Sink, S::Leash, N>>,
-    Arc<Handover<S::Sink, S::Leash, N>>,
-)> {
+) -> Option<
+    (
+        LineCutter,
+        Arc<Handover<S::Sink, S::Leash, N>>,
+        Arc<Handover<S::Sink, S::Leash, N>>,
+    ),
+> {
     let cutter = LineCutter::new(alloc).ok()?;
     let one = Arc::new(alloc, Handover::new()).ok()?;
     let other = Arc::try_clone(&one).ok()?;

@@ -46,7 +46,8 @@ pub fn reply<R: Wait, P: Pause, K: Sink + Drop, L: Leash + Drop, N: GateName>(
     unreachable!()
 }
 
-// Answers one helper. One of an incarnation that was there before, which no reader hands over, isn't answered.
+// Answers one helper. One of another slot or of an incarnation that was there before, which no reader hands over, isn't
+// answered.
 fn reply_to<R: Wait, P: Pause, K: Sink + Drop, L: Leash + Drop, N: GateName>(
     rt: &R,
     gate: &Gate<Book>,
@@ -65,6 +66,9 @@ fn reply_to<R: Wait, P: Pause, K: Sink + Drop, L: Leash + Drop, N: GateName>(
     ensures serves { Serves h last.old last.new pass.old pass.new }
     ensures fresh { IsFreshBehind last.new (own pass.new) }
 {
+    if errand.h != h {
+        return;
+    }
     if errand.inc <= *last {
         return;
     }
@@ -133,6 +137,9 @@ fn refuse_one<R: Wait, K: Sink + Drop, L: Leash + Drop, N: GateName>(
     ensures fresh { IsFreshBehind last.new (own pass.new) }
 {
     let Some(errand) = found else { return };
+    if errand.h != h {
+        return;
+    }
     if errand.inc <= *last {
         return;
     }

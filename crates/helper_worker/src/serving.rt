@@ -27,6 +27,7 @@ pub fn serve<R: Wait, P: Pause, K: Sink + Drop, L: Leash + Drop, N: GateName>(
     requires gate { pass.old.gate ≡ gate.now }
     requires name { pass.old.name ≡ N.writer }
     requires slot { h < max_helpers }
+    requires its { errand.h ≡ h }
     requires fresh { IsFreshFor errand.inc (own pass.old) }
     ensures inc { result.inc ≡ errand.inc }
     ensures serves { ServesOne h errand.inc pass.old pass.new }
@@ -34,6 +35,7 @@ pub fn serve<R: Wait, P: Pause, K: Sink + Drop, L: Leash + Drop, N: GateName>(
     let Errand {
         mut sink,
         mut leash,
+        h: _,
         inc,
         glimpse,
         name: _,
@@ -45,6 +47,7 @@ pub fn serve<R: Wait, P: Pause, K: Sink + Drop, L: Leash + Drop, N: GateName>(
     Return {
         sink,
         leash,
+        h,
         inc,
         glimpse,
         name: PhantomData,
@@ -63,6 +66,7 @@ pub fn deafen<R: Wait, K: Sink + Drop, L: Leash + Drop, N: GateName>(
     requires gate { pass.old.gate ≡ gate.now }
     requires name { pass.old.name ≡ N.writer }
     requires slot { h < max_helpers }
+    requires its { errand.h ≡ h }
     requires fresh { IsFreshFor errand.inc (own pass.old) }
     requires stops { HasStop pass.old.seen }
     ensures inc { result.inc ≡ errand.inc }
@@ -71,6 +75,7 @@ pub fn deafen<R: Wait, K: Sink + Drop, L: Leash + Drop, N: GateName>(
     let Errand {
         sink,
         mut leash,
+        h: _,
         inc,
         glimpse,
         name: _,
@@ -82,6 +87,7 @@ pub fn deafen<R: Wait, K: Sink + Drop, L: Leash + Drop, N: GateName>(
     Return {
         sink,
         leash,
+        h,
         inc,
         glimpse,
         name: PhantomData,

@@ -3,7 +3,7 @@ ghost use Rattle.std.specs.Prelude.{◌≡◌, ◌<◌, [], IfSome};
 ghost use Rattle.config_model.specs.Limits.{max_helpers};
 ghost use Rattle.outside.specs.Told.{GaveNothing};
 ghost use Rattle.pass_entries.specs.Making.{Makes};
-ghost use Rattle.helper_worker.specs.Handing.{HasStop, TookNothing};
+ghost use Rattle.helper_worker.specs.Handing.{HasGo, HasStop, TookNothing};
 ghost use Rattle.helper_worker.specs.Rounds.{Attends, HearsOut, IsSinkBack, Visits, ends_of, told};
 
 use crate::errand::{Errand, Off, Return};
@@ -43,6 +43,7 @@ pub fn visit<R: Wait, P: Pause, S: Spawner, N: GateName>(
 )
     requires named { gate.now ≡ N.gate }
     requires gate { pass.old.gate ≡ gate.now }
+    requires goes { HasGo h inc pass.old.seen }
     requires slot { h < max_helpers }
     ensures { Visits h N.writer inc run.now
         (told (S.children spawner.old) (S.asked spawner.old) (S.failed spawner.old))
@@ -51,7 +52,9 @@ pub fn visit<R: Wait, P: Pause, S: Spawner, N: GateName>(
 {
     match spawner.spawn(run) {
         Spawned::Open(pipes) => {
-            let pipes = attend(rt, alloc, gate, pass, pause, h, inc, cutter, handover, pipes);
+            let pipes = attend(
+                rt, alloc, gate, pass, pause, h, inc, cutter, handover, pipes,
+            );
             spawner.give_back(pipes);
         }
         Spawned::Failed => gate.enter(rt, pass, GoneCall { h, inc }),
@@ -73,6 +76,7 @@ fn attend<R: Wait, P: Pause, S: Source + Drop, K: Sink + Drop, L: Leash + Drop, 
 ) -> Pipes<S, K, L>
     requires named { gate.now ≡ N.gate }
     requires gate { pass.old.gate ≡ gate.now }
+    requires goes { HasGo h inc pass.old.seen }
     requires slot { h < max_helpers }
     requires source { GaveNothing (S.given pipes.source) }
     requires sink { GaveNothing (K.taken pipes.sink) }
@@ -88,7 +92,7 @@ fn attend<R: Wait, P: Pause, S: Source + Drop, K: Sink + Drop, L: Leash + Drop, 
     let held = Held { sink, leash };
     let kept = hand_over(rt, gate, pass, pause, h, inc, handover, held);
     hear_out(rt, alloc, gate, pass, pause, h, inc, cutter, &mut source);
-    let Held { sink, leash } = take_back(rt, gate, pass, pause, inc, handover, kept);
+    let Held { sink, leash } = take_back(rt, gate, pass, pause, h, inc, handover, kept);
     Pipes {
         source,
         sink,
@@ -132,6 +136,7 @@ fn hand_over<R: Wait, P: Pause, K: Sink + Drop, L: Leash + Drop, N: GateName>(
 ) -> Option<Held<K, L>>
     requires named { gate.now ≡ N.gate }
     requires gate { pass.old.gate ≡ gate.now }
+    requires goes { HasGo h inc pass.old.seen }
     requires sink { GaveNothing (K.taken held.sink) }
     ensures makes { Makes pass.old [] pass.new }
     ensures kept { IfSome result (λ held. TookNothing (K.taken held.sink) × HasStop pass.new.seen) }
@@ -141,6 +146,7 @@ fn hand_over<R: Wait, P: Pause, K: Sink + Drop, L: Leash + Drop, N: GateName>(
     let errand = Errand {
         sink,
         leash,
+        h,
         inc,
         glimpse,
         name: PhantomData,
@@ -169,6 +175,7 @@ fn keep<K: Sink + Drop, L: Leash + Drop, N: GateName>(
     let Errand {
         sink,
         mut leash,
+        h: _,
         inc: _,
         glimpse: _,
         name: _,
@@ -185,6 +192,7 @@ fn take_back<R: Wait, P: Pause, K: Sink + Drop, L: Leash + Drop, N: GateName>(
     gate: &Gate<Book>,
     pass: &mut Pass<Book>,
     pause: P,
+    h: usize,
     inc: u64,
     handover: &Handover<K, L, N>,
     kept: Option<Held<K, L>>,
@@ -193,7 +201,7 @@ fn take_back<R: Wait, P: Pause, K: Sink + Drop, L: Leash + Drop, N: GateName>(
     requires gate { pass.old.gate ≡ gate.now }
     requires kept { IfSome kept (λ held. TookNothing (K.taken held.sink) × HasStop pass.old.seen) }
     ensures makes { Makes pass.old [] pass.new }
-    ensures back { IsSinkBack N.writer inc (K.taken result.sink) (K.faults result.sink)
+    ensures back { IsSinkBack N.writer h inc (K.taken result.sink) (K.faults result.sink)
         pass.new.seen }
 {
     if let Some(held) = kept {
@@ -204,8 +212,10 @@ fn take_back<R: Wait, P: Pause, K: Sink + Drop, L: Leash + Drop, N: GateName>(
             pause.wait(IDLE);
             continue;
         };
-        if done.inc == inc {
-            return learn_back(gate, pass, done);
+        if done.h == h {
+            if done.inc == inc {
+                return learn_back(gate, pass, done);
+            }
         }
     }
     unreachable!()
@@ -220,12 +230,13 @@ fn learn_back<K: Sink + Drop, L: Leash + Drop, N: GateName>(
     requires named { gate.now ≡ N.gate }
     requires gate { pass.old.gate ≡ gate.now }
     ensures makes { Makes pass.old [] pass.new }
-    ensures back { IsSinkBack N.writer done.inc (K.taken result.sink) (K.faults result.sink)
+    ensures back { IsSinkBack N.writer done.h done.inc (K.taken result.sink) (K.faults result.sink)
         pass.new.seen }
 {
     let Return {
         sink,
         leash,
+        h: _,
         inc: _,
         glimpse,
         name: _,

@@ -1,3 +1,4 @@
+use Rattle.helper_worker.proofs.HandingLemmas.{has_go}
 use Rattle.helper_worker.proofs.RoundLemmas.{reads_idle, reads_none, reads_out, reads_start}
 use Rattle.helper_worker.proofs.reading.read_helpers.Goals as goal
 
@@ -19,6 +20,9 @@ loop-preserved-in-Running g c =
 pub loop-preserved-in-GiveUp : goal.loop-preserved-in-GiveUp
 loop-preserved-in-GiveUp g c =
     reads_idle _ _ _ _ _ _ _ _ _ _ _ c.loop.invariant c.in-GiveUp.ensures.entered c.now-now.ensures tt
+
+pub visit-requires-clause-goes : goal.visit-requires-clause-goes
+visit-requires-clause-goes g c κs within = has_go _ _ _ _ _ _ _ c.in-Go.ensures.entered
 
 pub loop-preserved : goal.loop-preserved
 loop-preserved g c =

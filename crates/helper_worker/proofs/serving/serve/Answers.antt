@@ -7,8 +7,8 @@ invariant_of-result g c =
     record {
       of = c.glimpse-glimpse.ensures.glimpse.0 ∙ c.requires.named;
       answered =
-          is_answered _ _ _ _ _ _ _ _ _ _ _ _ c.learn.ensures.learned c.answer.ensures c.requires.name
-          c.requires.fresh c.args.errand.new c.glimpse-glimpse.ensures.glimpse.1;
+          is_answered _ _ _ _ _ _ _ _ _ _ _ _ _ c.learn.ensures.learned c.answer.ensures c.requires.name
+          c.requires.fresh c.args.errand.new c.requires.its c.args.errand.goes c.glimpse-glimpse.ensures.glimpse.1;
     }
 
 pub returns-clause-serves : goal.returns-clause-serves

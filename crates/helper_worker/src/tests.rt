@@ -1,0 +1,207 @@
+//! What no clause says: that the jobs end with the daemon, and what becomes of a helper whose pipes or start fail.
+ghost use Rattle.std.specs.Prelude.{◌≡◌, [], IfOk};
+ghost use Rattle.pass_entries.specs.Making.{own};
+
+use crate::{Pair, make_pair, take_apart};
+use arrayvec::ArrayVec;
+use book_core::{Book, ControlCall};
+use book_gate::{Gate, GateName, Opened, Pass};
+use book_history::Control;
+use config_model::{Config, Draft, Process, check};
+use outside::{MemoryPause, MemorySpawner, ReadyChild, Script, StillClock};
+use std::alloc::Global;
+use std::hash::RandomState;
+use std::marker::Brand;
+use std::snapshot::Snapshot;
+use std::sync::Wait;
+use std::test::Fail;
+use std::thread;
+use std::thread::Threads;
+
+// What a helper writes that ends the daemon, and then begins a line that it doesn't end.
+const LAST: &[u8] = b"announce route 10.0.0.0/24 next-hop 192.0.2.1\nfoo\nshutdown\nfoo";
+
+fn bytes<const N: usize>(text: &[u8]) -> ArrayVec<u8, N> {
+    let mut bytes = ArrayVec::new();
+    let _ = bytes.try_extend_from_slice(text);
+    bytes
+}
+
+// The configuration of one helper.
+fn config(alloc: Global) -> Result<Config, Fail> {
+    let mut draft = Draft::new(alloc);
+    draft.add_process(Process {
+        name: bytes(b"h"),
+        run: bytes(b"/bin/cat"),
+        json: false,
+        respawn: true,
+    })?;
+    match check(draft) {
+        Ok(config) => Ok(config),
+        Err(_) => Err("no configuration".into()),
+    }
+}
+
+// A gate round the book of that configuration.
+fn opened(rt: &HostRuntime) -> Result<Opened<Book>, Fail>
+    ensures { IfOk result (λ opened. opened.pass.gate ≡ opened.gate) }
+{
+    let config = config(rt.alloc())?;
+    let start = Snapshot::of(&config);
+    let book = Book::open(rt.alloc(), config, RandomState::new(rt)?)?;
+    match Gate::open(rt.alloc(), book, start) {
+        Ok(opened) => Ok(opened),
+        Err(_) => Err("no gate".into()),
+    }
+}
+
+// A new pass.
+fn split(gate: &Gate<Book>, pass: &mut Pass<Book>) -> Result<Pass<Book>, Fail>
+    requires { pass.old.gate ≡ gate.now }
+    ensures gate { pass.new.gate ≡ gate.now }
+    ensures new { IfOk result (λ new. (new.gate ≡ gate.now) × (own new ≡ [])) }
+{
+    match gate.split(pass) {
+        Ok(new) => Ok(new),
+        Err(_) => Err("no pass".into()),
+    }
+}
+
+// Runs both jobs beside each other, or calls them off.
+fn work<'a, R: Threads + Wait + Sync, N: GateName + Send>(
+    rt: &R,
+    alloc: Global,
+    gate: &Gate<Book>,
+    spawner: MemorySpawner<'a>,
+    reading: Pass<Book>,
+    writing: Pass<Book>,
+    runs: bool,
+) -> Result<MemorySpawner<'a>, Fail>
+    requires named { gate.now ≡ N.gate }
+    requires reading { reading.gate ≡ gate.now }
+    requires writing { writing.gate ≡ gate.now }
+    requires name { writing.name ≡ N.writer }
+    requires new { own writing ≡ [] }
+{
+    let pause = MemoryPause::new(&[]);
+    let pair = make_pair::<_, _, _, N>(
+        alloc, gate, 0, spawner, StillClock, pause, reading, writing,
+    );
+    let Ok(pair) = pair else {
+        return Err("no jobs".into());
+    };
+    let Pair {
+        mut reader,
+        mut replier,
+    } = pair;
+    if !runs {
+        replier.call_off(rt);
+        reader.call_off(rt);
+        return Ok(take_apart(reader, replier).spawner);
+    }
+    let (reader, replier) = thread::join(
+        rt,
+        move || {
+            reader.run(rt);
+            reader
+        },
+        move || {
+            replier.run(rt);
+            replier
+        },
+    );
+    Ok(take_apart(reader, replier).spawner)
+}
+
+// What is left of both jobs of the first slot, and whether the daemon is then to end.
+fn worked<'a, R: Threads + Wait + Sync>(
+    rt: &R,
+    alloc: Global,
+    opened: Opened<Book>,
+    spawner: MemorySpawner<'a>,
+    runs: bool,
+) -> Result<(MemorySpawner<'a>, bool), Fail>
+    requires { opened.pass.gate ≡ opened.gate }
+{
+    let Opened { gate, mut pass } = opened;
+    let reading = split(&gate, &mut pass)?;
+    let writing = split(&gate, &mut pass)?;
+    let spawner = work::<R, Brand>(rt, alloc, &gate, spawner, reading, writing, runs)?;
+    let ends = matches!(gate.enter(rt, &mut pass, ControlCall), Control::Stop);
+    Ok((spawner, ends))
+}
+
+// A spawner whose first child takes by a script, and whose starts of these numbers fail.
+fn spawner<'a>(
+    alloc: Global,
+    script: Script<'a>,
+    failing: &'a [u64],
+) -> Result<MemorySpawner<'a>, Fail> {
+    let mut ready = Vec::new(alloc);
+    ready.push(ReadyChild::new(alloc, LAST, 4_096)?.taking(script))?;
+    ready.push(ReadyChild::new(alloc, LAST, 4_096)?)?;
+    Ok(MemorySpawner::new(alloc, ready, 4, failing)?)
+}
+
+// How many starts were asked for and how many of them failed, how many children have ended, and how often the pipes
+// and starts failed.
+fn counts(spawner: &MemorySpawner<'_>) -> (usize, Option<u64>, usize, u64) {
+    let asked = spawner.asked().map_or(0, |asked| asked.len());
+    let ended = spawner.ended().map_or(0, |ended| ended.len());
+    (asked, spawner.failed(), ended, spawner.faults())
+}
+
+// Whether the last child that has ended took this.
+fn took(spawner: &MemorySpawner<'_>, text: &[u8]) -> bool {
+    let Some(ended) = spawner.ended() else {
+        return false;
+    };
+    let Some(pipes) = ended.last() else {
+        return false;
+    };
+    match pipes.sink.bytes() {
+        Some(bytes) => bytes == text,
+        None => false,
+    }
+}
+
+#[test]
+fn a_helper_is_heard_and_answered_until_it_ends_the_daemon(rt: HostRuntime) -> Result<(), Fail> {
+    let made = spawner(rt.alloc(), Script::new(), &[])?;
+    let (left, ends) = worked(&rt, rt.alloc(), opened(&rt)?, made, true)?;
+    assert_eq!(rt; counts(&left), (1, Some(0), 1, 0));
+    assert!(rt; took(&left, b"done\nerror token 1\ndone\n"));
+    assert!(rt; ends);
+    Ok(())
+}
+
+#[test]
+fn a_helper_that_is_not_started_is_asked_for_again(rt: HostRuntime) -> Result<(), Fail> {
+    let made = spawner(rt.alloc(), Script::new(), &[0])?;
+    let (left, ends) = worked(&rt, rt.alloc(), opened(&rt)?, made, true)?;
+    assert_eq!(rt; counts(&left), (2, Some(1), 1, 1));
+    assert!(rt; ends);
+    Ok(())
+}
+
+#[test]
+fn a_helper_that_cannot_be_answered_is_given_back(rt: HostRuntime) -> Result<(), Fail> {
+    let script = Script {
+        failing: &[0],
+        ..Script::new()
+    };
+    let made = spawner(rt.alloc(), script, &[])?;
+    let (left, ends) = worked(&rt, rt.alloc(), opened(&rt)?, made, true)?;
+    assert_eq!(rt; left.faults(), 1);
+    assert!(rt; ends);
+    Ok(())
+}
+
+#[test]
+fn jobs_that_are_called_off_end_the_daemon(rt: HostRuntime) -> Result<(), Fail> {
+    let made = spawner(rt.alloc(), Script::new(), &[])?;
+    let (left, ends) = worked(&rt, rt.alloc(), opened(&rt)?, made, false)?;
+    assert_eq!(rt; counts(&left), (0, Some(0), 0, 0));
+    assert!(rt; ends);
+    Ok(())
+}
