@@ -1,6 +1,8 @@
 -- What the entries of a replier tell of a sink.
-use Rattle.std.proofs.Common.{ℕ, ◌≡◌, ◌⊎◌, ◌<◌, Bool, true, false, true≢false, ◌||◌, ◌&&◌, ◌==◌, cond, List, [], ◌∷◌, ◌++◌, take, length}
-use Rattle.std.proofs.Common.{Option, Some, None, inl, inr, refl, ap, ap₂, sym, subst, ◌∙◌, append_assoc, append-nil, arith, eq-eqb, ne_eqb}
+use Rattle.std.proofs.Common.{ℕ, ◌≡◌, ◌⊎◌, ◌<◌, Bool, true, false, true≢false, ◌||◌, ◌&&◌, ◌==◌, cond, List, [], ◌∷◌}
+use Rattle.std.proofs.Common.{◌++◌, take, length}
+use Rattle.std.proofs.Common.{Option, Some, None, inl, inr, refl, ap, ap₂, sym, subst, ◌∙◌, append_assoc, append-nil}
+use Rattle.std.proofs.Common.{arith, eq-eqb, ne_eqb}
 use Rattle.std.proofs.lemmas.List.{map-append}
 use Rattle.std.proofs.lemmas.List.Concat.{flat_map-append}
 use Rattle.std.proofs.lemmas.List.Elements.{All-head, All-tail, filter-append}
@@ -19,7 +21,8 @@ use Rattle.book_gate.specs.Known.{Glimpsed, Known}
 use Rattle.book_gate.specs.declared.view.Signed.{Signed}
 use Rattle.pass_entries.specs.Making.{Makes, own}
 use Rattle.pass_entries.proofs.MakingLemmas.{makes_learned, makes_more, makes_one}
-use Rattle.helper_worker.specs.Handing.{HasGo, HasStop, IsAnswered, IsFront, TookNothing, deaf_for, is_early, is_go, is_reply}
+use Rattle.helper_worker.specs.Handing.{HasGo, HasStop, IsAnswered, IsFront, TookNothing, deaf_for, is_early, is_go}
+use Rattle.helper_worker.specs.Handing.{is_reply}
 use Rattle.helper_worker.specs.Handing.{is_stop, lasts_for, replies_for, text_for, under}
 use Rattle.helper_worker.specs.Replies.{Answers, IsReplyOf, Wrote, deaf_by, is_last, lasts_by, text_by, text_of}
 use Rattle.helper_worker.specs.Serving.{IsFreshFor, ServesOne}
@@ -85,7 +88,8 @@ text_other h inc other below entry (inl (given, is)) =
     ∙ ap (λ test. cond test (text_of given) []) (ne_eqb inc other (λ same. omega (arith, same, below)))
 text_other h inc other below entry (inr is) = ap (text_for other) is
 
-pub deaf_other : (h inc other : ℕ) → inc < other → (entry : Entry) → IsReplyOf h inc entry → deaf_for other entry ≡ false
+pub deaf_other : (h inc other : ℕ) → inc < other → (entry : Entry) → IsReplyOf h inc entry
+    → deaf_for other entry ≡ false
 deaf_other h inc other below entry (inl (given, is)) = ap (deaf_for other) is
 deaf_other h inc other below entry (inr is) =
     ap (deaf_for other) is ∙ ne_eqb inc other (λ same. omega (arith, same, below))
@@ -205,9 +209,10 @@ module _ {A : Type 0} where
       (sym is ∙ sym (ap (λ (known : Known A Entry). known.name) makes.same))
       ∙ makes.own
 
-  makes_answers : (law : A → List Entry → Entry → Type 0) (pass between later : Known A Entry) (glimpse : Glimpsed Entry)
-      (h inc : ℕ) (taken taken' : Option (List ℕ)) (faults : ℕ) → Learns law pass glimpse between
-      → (answers : Answers between h inc taken taken' faults later) → Makes pass answers.takes.entries later
+  makes_answers : (law : A → List Entry → Entry → Type 0) (pass between later : Known A Entry)
+      (glimpse : Glimpsed Entry) (h inc : ℕ) (taken taken' : Option (List ℕ)) (faults : ℕ)
+      → Learns law pass glimpse between → (answers : Answers between h inc taken taken' faults later)
+      → Makes pass answers.takes.entries later
   makes_answers law pass between later glimpse h inc taken taken' faults learned answers =
       makes_more pass between later [] answers.takes.entries (makes_learned law pass between glimpse learned)
       answers.takes.makes
@@ -229,8 +234,9 @@ module _ {A : Type 0} where
   -- a sink that was answered
   pub is_answered : (law : A → List Entry → Entry → Type 0) (pass between later : Known A Entry)
       (glimpse : Glimpsed Entry) (h inc number : ℕ) (taken taken' : Option (List ℕ)) (faults : ℕ)
-      (writer : List ℕ) (seen : List (Signed Entry)) → Learns law pass glimpse between → Answers between h inc taken taken' faults later
-      → pass.name ≡ writer → IsFreshFor inc (own pass) → TookNothing taken → number ≡ h
+      (writer : List ℕ) (seen : List (Signed Entry)) → Learns law pass glimpse between
+      → Answers between h inc taken taken' faults later → pass.name ≡ writer → IsFreshFor inc (own pass)
+      → TookNothing taken → number ≡ h
       → HasGo number inc glimpse.seen → seen ≡ later.seen → IsAnswered writer h inc taken' faults seen
   is_answered law pass between later glimpse h inc number taken taken' faults writer seen learned answers is fresh none
       its goes seen_is =
@@ -291,9 +297,10 @@ module _ {A : Type 0} where
       (glimpse : Glimpsed Entry) (h inc number : ℕ) (taken : Option (List ℕ)) (faults : ℕ) (writer : List ℕ)
       (seen : List (Signed Entry)) → Learns law pass glimpse between → Enters law between (HelperDeaf h inc) later
       → pass.name ≡ writer → IsFreshFor inc (own pass) → TookNothing taken → number ≡ h
-      → HasGo number inc glimpse.seen → HasStop pass.seen → seen ≡ later.seen → IsAnswered writer h inc taken faults seen
-  is_deafened law pass between later glimpse h inc number taken faults writer seen learned entered is fresh none its goes
-      stops seen_is =
+      → HasGo number inc glimpse.seen → HasStop pass.seen → seen ≡ later.seen
+      → IsAnswered writer h inc taken faults seen
+  is_deafened law pass between later glimpse h inc number taken faults writer seen learned entered is fresh none its
+      goes stops seen_is =
       let made : List Entry = HelperDeaf h inc ∷ [] in
       let makes = makes_deaf law pass between later glimpse h inc learned entered in
       let all : under writer seen ≡ own pass ++ made =

@@ -1,5 +1,6 @@
 -- Lines that end in a piece, entered one by one.
-use Rattle.std.proofs.Common.{ℕ, ◌≡◌, ◌⊎◌, Bool, true, false, cond, List, [], ◌∷◌, ◌++◌, length, take, drop, Option, Some, None}
+use Rattle.std.proofs.Common.{ℕ, ◌≡◌, ◌⊎◌, Bool, true, false, cond, List, [], ◌∷◌, ◌++◌, length, take, drop, Option}
+use Rattle.std.proofs.Common.{Some, None}
 use Rattle.std.proofs.Common.{ap, sym, ◌∙◌, refl, subst, append_assoc, append-nil, arith, inl, inr}
 use Rattle.std.specs.Option.{option_to_list}
 use Rattle.std.proofs.lemmas.List.{take-append-drop, take_all}
@@ -88,7 +89,8 @@ module _ {A : Type 0} where
         more = before.more ++ line ∷ [];
         cut =
             subst (λ (all : List Line). HasCut (bytes ++ front) all held') (append_assoc passed before.more (line ∷ []))
-            (subst (λ (after : Cutting). HasCut (bytes ++ front) ((passed ++ before.more) ++ line ∷ []) after) (sym passes)
+            (subst (λ (after : Cutting). HasCut (bytes ++ front) ((passed ++ before.more) ++ line ∷ []) after)
+            (sym passes)
             (subst (λ (some : Option Line). HasCut (bytes ++ front) ((passed ++ before.more) ++ option_to_list some)
             (advanced then)) (sym stands)
             (cut_passes (bytes ++ front) (passed ++ before.more) then before.cut)));

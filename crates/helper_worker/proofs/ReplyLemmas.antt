@@ -1,5 +1,6 @@
 -- Replies, taken and written one after the other.
-use Rattle.std.proofs.Common.{ℕ, ◌≡◌, ◌⊎◌, ◌<◌, Bool, true, false, true≢false, ◌||◌, List, [], ◌∷◌, ◌++◌, Option, Some, None, inl, inr}
+use Rattle.std.proofs.Common.{ℕ, ◌≡◌, ◌⊎◌, ◌<◌, Bool, true, false, true≢false, ◌||◌, List, [], ◌∷◌, ◌++◌, Option}
+use Rattle.std.proofs.Common.{Some, None, inl, inr}
 use Rattle.std.proofs.Common.{length, refl, ap, ap₂, sym, subst, ◌∙◌, append_assoc, append-nil, arith}
 use Rattle.std.specs.List.{All, flat_map, list_any}
 use Rattle.std.proofs.lemmas.List.Concat.{flat_map-append}
@@ -45,7 +46,9 @@ run_both : (h inc : ℕ) (first second : List ℕ) (last gone_deaf : Bool) (fron
 run_both h inc first second last gone_deaf front back one other =
     record {
       only = All-append (IsReplyOf h inc) front back one.only other.only;
-      text_is = flat_map-append text_by front back ∙ ap₂ (λ (text next : List ℕ). text ++ next) one.text_is other.text_is;
+      text_is =
+          flat_map-append text_by front back
+          ∙ ap₂ (λ (text next : List ℕ). text ++ next) one.text_is other.text_is;
       last_is = list_any-append lasts_by front back ∙ ap₂ (λ (one two : Bool). one || two) one.last_is other.last_is;
       deaf_is = list_any-append deaf_by front back ∙ ap₂ (λ (one two : Bool). one || two) one.deaf_is other.deaf_is;
     }
@@ -62,7 +65,8 @@ module _ {A : Type 0} where
     pub takes : TakesReplies pass h inc text false false later
     pub grows : Grows told told' text
 
-  pub answered_none : (pass : Known A Entry) (h inc : ℕ) (told : Option (List ℕ)) → AnsweredSoFar pass h inc told told pass
+  pub answered_none : (pass : Known A Entry) (h inc : ℕ) (told : Option (List ℕ))
+      → AnsweredSoFar pass h inc told told pass
   answered_none pass h inc told =
       record {
         text = [];

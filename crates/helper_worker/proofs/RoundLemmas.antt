@@ -1,5 +1,6 @@
 -- One round after the other of a reader.
-use Rattle.std.proofs.Common.{ℕ, ◌≡◌, ◌⊎◌, ◌+◌, Bool, true, false, true≢false, List, [], ◌∷◌, ◌++◌, Option, Some, None, length, inl, inr, arith}
+use Rattle.std.proofs.Common.{ℕ, ◌≡◌, ◌⊎◌, ◌+◌, Bool, true, false, true≢false, List, [], ◌∷◌, ◌++◌, Option, Some}
+use Rattle.std.proofs.Common.{None, length, inl, inr, arith}
 use Rattle.std.proofs.Common.{refl, ap, ap₂, sym, subst, ◌∙◌, append_assoc, append-nil, length-append}
 use Rattle.std.specs.List.{All, flat_map}
 use Rattle.std.proofs.lemmas.List.{map-append}
@@ -20,7 +21,8 @@ use Rattle.book_gate.specs.declared.view.Signed.{Signed}
 use Rattle.pass_entries.specs.Making.{Makes, own}
 use Rattle.pass_entries.proofs.MakingLemmas.{makes_more, makes_none, makes_one}
 use Rattle.helper_worker.specs.Handing.{under}
-use Rattle.helper_worker.specs.Rounds.{AreBack, Ends, GathersAll, IsBackBy, IsIdle, IsRound, IsSinkBack, Outcome, Reads, ReadsOut, Round, Tells, Told, Visits}
+use Rattle.helper_worker.specs.Rounds.{AreBack, Ends, GathersAll, IsBackBy, IsIdle, IsRound, IsSinkBack, Outcome}
+use Rattle.helper_worker.specs.Rounds.{Reads, ReadsOut, Round, Tells, Told, Visits}
 use Rattle.helper_worker.specs.Rounds.Outcome.{Heard}
 use Rattle.helper_worker.specs.Rounds.Round.{Idle, Start}
 use Rattle.helper_worker.specs.Rounds.{asked_by, children_of, entries_of, failures_in, failures_of, made_by}
@@ -201,7 +203,8 @@ module _ {A : Type 0} where
         makes = makes_none pass;
         good = All-nil (IsRound h moments);
         tells = tells_none old;
-        back = λ front back now inc run lines ends is. absurd (none_in front back (Start now inc run (Heard lines ends)) is);
+        back = λ front back now inc run lines ends is.
+            absurd (none_in front back (Start now inc run (Heard lines ends)) is);
       }
 
   reads_round : (h : ℕ) (writer : List ℕ) (moments : Option (ℕ → Bool)) (old mid new : Told)

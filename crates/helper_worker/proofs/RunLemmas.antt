@@ -1,5 +1,6 @@
 -- Line entries, one behind the other.
-use Rattle.std.proofs.Common.{ℕ, ◌≡◌, Bool, true, false, ◌||◌, List, [], ◌∷◌, ◌++◌, Result, refl, ap, ap₂, sym, subst, ◌∙◌}
+use Rattle.std.proofs.Common.{ℕ, ◌≡◌, Bool, true, false, ◌||◌, List, [], ◌∷◌, ◌++◌, Result, refl, ap, ap₂, sym, subst}
+use Rattle.std.proofs.Common.{◌∙◌}
 use Rattle.std.proofs.Common.{append-nil}
 use Rattle.std.specs.List.{All, flat_map, list_any}
 use Rattle.std.proofs.lemmas.List.Concat.{flat_map-append}
@@ -39,12 +40,15 @@ run_one h inc line reading given =
     }
 
 -- behind entries of which none came too late
-run_both : (h inc : ℕ) (first second : List Line) (late : Bool) (front back : List Entry) → LineRun h inc first false front
-    → LineRun h inc second late back → LineRun h inc (first ++ second) late (front ++ back)
+run_both : (h inc : ℕ) (first second : List Line) (late : Bool) (front back : List Entry)
+    → LineRun h inc first false front → LineRun h inc second late back
+    → LineRun h inc (first ++ second) late (front ++ back)
 run_both h inc first second late front back one other =
     record {
       only = All-append (IsLineOf h inc) front back one.only other.only;
-      taken_are = flat_map-append taken_by front back ∙ ap₂ (λ (front next : List Line). front ++ next) one.taken_are other.taken_are;
+      taken_are =
+          flat_map-append taken_by front back
+          ∙ ap₂ (λ (front next : List Line). front ++ next) one.taken_are other.taken_are;
       late_is = list_any-append ends_by front back ∙ ap₂ (λ (one two : Bool). one || two) one.late_is other.late_is;
     }
 

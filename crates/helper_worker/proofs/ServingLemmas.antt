@@ -1,5 +1,6 @@
 -- One helper after the other of a replier.
-use Rattle.std.proofs.Common.{ℕ, ◌≡◌, ◌⊎◌, ◌<◌, false, List, [], ◌∷◌, ◌++◌, inl, inr, refl, ap, sym, subst, ◌∙◌, append-nil, arith}
+use Rattle.std.proofs.Common.{ℕ, ◌≡◌, ◌⊎◌, ◌<◌, false, List, [], ◌∷◌, ◌++◌, inl, inr, refl, ap, sym, subst, ◌∙◌}
+use Rattle.std.proofs.Common.{append-nil, arith}
 use Rattle.std.specs.List.{All, flat_map, list_any}
 use Rattle.std.proofs.lemmas.List.Concat.{flat_map-append}
 use Rattle.std.proofs.lemmas.List.Elements.{All-append, All-cons, All-nil}
@@ -10,8 +11,10 @@ use Rattle.pass_entries.specs.Making.{Makes, own}
 use Rattle.pass_entries.proofs.MakingLemmas.{makes_more, makes_none}
 use Rattle.helper_worker.specs.Handing.{deaf_for, replies_for, text_for}
 use Rattle.helper_worker.specs.Replies.{IsReplyOf}
-use Rattle.helper_worker.specs.Serving.{CallsOff, IsFreshBehind, IsFreshFor, IsServed, Refuses, Rises, Served, Serves, ServesOne, entries_in}
-use Rattle.helper_worker.proofs.HandingLemmas.{any_none, deaf_more, deaf_other, flat_none, replies_more, replies_other, text_more}
+use Rattle.helper_worker.specs.Serving.{CallsOff, IsFreshBehind, IsFreshFor, IsServed, Refuses, Rises, Served, Serves}
+use Rattle.helper_worker.specs.Serving.{ServesOne, entries_in}
+use Rattle.helper_worker.proofs.HandingLemmas.{any_none, deaf_more, deaf_other, flat_none, replies_more}
+use Rattle.helper_worker.proofs.HandingLemmas.{replies_other, text_more}
 use Rattle.helper_worker.proofs.HandingLemmas.{text_other}
 
 rises_both : (last mid now : ℕ) (front back : List Served) → Rises last front mid → Rises mid back now

@@ -1,5 +1,6 @@
 -- One helper of a reader.
-use Rattle.std.proofs.Common.{ℕ, ◌≡◌, Bool, true, false, true≢false, List, [], ◌∷◌, ◌++◌, Option, Some, None, IfSome, map, inl, inr, arith, ◌+◌, refl, ap, sym, subst, ◌∙◌, append_assoc, append-nil}
+use Rattle.std.proofs.Common.{ℕ, ◌≡◌, Bool, true, false, true≢false, List, [], ◌∷◌, ◌++◌, Option, Some, None, IfSome}
+use Rattle.std.proofs.Common.{map, inl, inr, arith, ◌+◌, refl, ap, sym, subst, ◌∙◌, append_assoc, append-nil}
 use Rattle.std.proofs.lemmas.List.{map-append}
 use mathlib.Core.List.{IsPrefix}
 use Rattle.outside.specs.Ended.{EndedChild, Gathers, child_of}
@@ -42,7 +43,8 @@ not_heard : (lines : List Entry) (ends : Ends) → Failed ≡ Heard lines ends �
 not_heard lines ends is = true≢false (sym (ap was_heard is))
 
 module _ {X : Type 0} where
-  pub gathers_one : (old new : Option (List X)) (item : Option X) → Gathers old new item → GathersAll old new (item ∷ [])
+  pub gathers_one : (old new : Option (List X)) (item : Option X) → Gathers old new item
+      → GathersAll old new (item ∷ [])
   gathers_one old None item gathers = tt
   gathers_one old (Some now) None gathers = absurd gathers
   gathers_one None (Some now) (Some item) gathers = absurd gathers
@@ -70,7 +72,8 @@ sink_kept writer h inc taken faults seen none stops =
 
 -- a sink that was kept took nothing still
 pub kept_stays : {X : Type 0} (kept : Option X) (took : X → Type 0) (seen seen' : List (Signed Entry))
-    → IsPrefix seen seen' → IfSome kept (λ held. took held × HasStop seen) → IfSome kept (λ held. took held × HasStop seen')
+    → IsPrefix seen seen' → IfSome kept (λ held. took held × HasStop seen)
+    → IfSome kept (λ held. took held × HasStop seen')
 kept_stays None took seen seen' more keeps = keeps
 kept_stays (Some held) took seen seen' more keeps = (keeps.0, stop_stays seen seen' more keeps.1)
 

@@ -8,7 +8,8 @@ invariant_of-result g c =
       of = c.glimpse-glimpse.ensures.glimpse.0 ∙ c.requires.named;
       answered =
           is_deafened _ _ _ _ _ _ _ _ _ _ _ _ c.learn.ensures.learned c.enter.ensures.entered c.requires.name
-          c.requires.fresh c.args.errand.new c.requires.its c.args.errand.goes c.requires.stops c.glimpse-glimpse.ensures.glimpse.1;
+          c.requires.fresh c.args.errand.new c.requires.its c.args.errand.goes c.requires.stops
+          c.glimpse-glimpse.ensures.glimpse.1;
     }
 
 pub returns-clause-makes : goal.returns-clause-makes
