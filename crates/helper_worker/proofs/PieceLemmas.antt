@@ -106,19 +106,16 @@ module _ {A : Type 0} where
       let before = enters bytes passed cut in
       let stay = lines_stay (bytes ++ front) behind in
       record {
-        front = before.more;
-        behind = line ∷ stay.0;
+        front = before.more ++ line ∷ [];
+        behind = stay.0;
         lines_are =
             ap lines (ap (λ (last : List ℕ). bytes ++ last) is ∙ sym (append_assoc bytes front behind)) ∙ stay.1
             ∙ ap (λ (all : List Line). all ++ stay.0)
             (before.cut.lines_are
             ∙ ap (λ (some : Option Line). (passed ++ before.more) ++ option_to_list some) (sym stands)
             ∙ append_assoc passed before.more (line ∷ []))
-            ∙ append_assoc passed (before.more ++ line ∷ []) stay.0
-            ∙ ap (λ (all : List Line). passed ++ all) (append_assoc before.more (line ∷ []) stay.0);
-        enters =
-            subst (λ (taken : List Line). EntersLines pass h inc taken true later) (append-nil before.more)
-            (lines_both pass between later h inc before.more [] true before.enters one);
+            ∙ append_assoc passed (before.more ++ line ∷ []) stay.0;
+        enters = lines_both pass between later h inc before.more (line ∷ []) true before.enters one;
       }
 
   pub front_more : (pass between later : Known A Entry) (h inc : ℕ) (piece rest left : List ℕ) (line : Line)

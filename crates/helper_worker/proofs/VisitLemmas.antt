@@ -91,7 +91,7 @@ module _ {A : Type 0} where
             record {
               bytes = hears.bytes;
               gives = grows_new given given' hears.bytes none hears.grows;
-              taken = hears.taken;
+              texts = hears.texts;
               late = hears.late;
               run = hears.enters.run;
               heard = hears.heard;

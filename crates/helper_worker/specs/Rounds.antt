@@ -84,10 +84,10 @@ pub record IsVisit (h inc : ℕ) (lines : List Entry) (given : Option (List ℕ)
     : Type 0 where
   pub bytes : List ℕ
   pub gives : Grows (Some []) given bytes
-  pub taken : List Line
+  pub texts : List Line
   pub late : Bool
-  pub run : LineRun h inc taken late lines
-  pub heard : IsHeard bytes taken late ended faults
+  pub run : LineRun h inc texts late lines
+  pub heard : IsHeard bytes texts late ended faults
 
 abbrev pub IsOutcome : ℕ → ℕ → Outcome → Type 0
 IsOutcome h inc (Heard lines ends) = IsVisit h inc lines ends.given ends.ended ends.faults

@@ -2,6 +2,9 @@ use Rattle.std.proofs.Common.{arith}
 use Rattle.helper_worker.proofs.ServingLemmas.{fresh_served, serves_none, serves_served}
 use Rattle.helper_worker.proofs.replying.reply_to.Goals as goal
 
+pub returns-then-errand-h-clause-serves : goal.returns-then-errand-h-clause-serves
+returns-then-errand-h-clause-serves g c = serves_none _ _ _
+
 pub returns-then-errand-last-clause-serves : goal.returns-then-errand-last-clause-serves
 returns-then-errand-last-clause-serves g c = serves_none _ _ _
 
