@@ -1,0 +1,6 @@
+pub mod Deeds
+pub mod Desks
+pub mod Goings
+pub mod Places
+pub mod Rounds
+pub mod Wires
