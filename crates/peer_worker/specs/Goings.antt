@@ -64,6 +64,12 @@ Fits (st.Established agreed) place = place ≡ Live
 abbrev pub idle : State
 idle = st.Idle
 
+abbrev pub is_idle : State → Bool
+is_idle st.Idle = true
+is_idle st.OpenSent = false
+is_idle (st.OpenConfirm agreed) = false
+is_idle (st.Established agreed) = false
+
 abbrev pub IsEstablished : State → Type 0
 IsEstablished st.Idle = ⊥
 IsEstablished st.OpenSent = ⊥

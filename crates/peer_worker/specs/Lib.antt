@@ -1,6 +1,7 @@
 pub mod Deeds
 pub mod Desks
 pub mod Goings
+pub mod Hearing
 pub mod Places
 pub mod Rounds
 pub mod Wires

@@ -8,7 +8,14 @@
 
 mod cause;
 mod desk;
+mod hearing;
+mod rounds;
+mod session;
 mod slip;
 mod speaking;
+mod talker;
 mod timers;
+mod turns;
 mod voice;
+
+pub use talker::{Talker, TalkerParts};

@@ -29,7 +29,7 @@ impl<L> Voice<L> {
 
     /// The link.
     pub fn apart(self) -> L
-        ensures { result ≡ self.entry.link }
+        ensures { result ≡ self.link }
     {
         let Voice {
             link,
