@@ -5,7 +5,10 @@ use Rattle.std.specs.declared.option.Option.{Option}
 use Rattle.std.specs.declared.option.Option.TheVariants.{Some, None}
 use Rattle.outside.specs.Told.{Grows, counted}
 use Rattle.outside.proofs.ToldLemmas.{grows_more}
-use Rattle.peer_worker.specs.Wires.{Gathered, Left, Wire}
+use Rattle.outside.specs.declared.link.Link.{Ghosts}
+use Rattle.peer_worker.specs.declared.voice.Voice.{Voice}
+use Rattle.peer_worker.specs.Desks.{Desked}
+use Rattle.peer_worker.specs.Wires.{Gathered, Left, Wire, wire}
 
 -- a count of one more isn't 0
 pub some_counted : (before now : ℕ) → now ≡ counted before → 0 < now
@@ -96,15 +99,35 @@ gathered_put s t bytes out said is =
     } in
     gathered_more s t (record t { out = out }) [] bytes said put
 
--- all was sent, or a part of it
-pub flushed_all : (s : Wire) (taken : Option (List ℕ)) (faults : ℕ) (dialled : Option _) → s.broken ≡ false
-    → Grows s.taken taken s.out → s.faults ≤ faults → dialled ≡ s.dialled
-    → Gathered s [] (record { taken = taken; dialled = dialled; faults = faults; out = []; broken = false })
-flushed_all s taken faults dialled whole grows later same =
-    record {
-      sent = s.out;
-      grows = grows;
-      left = subst (λ (broken : Bool). Left broken false s.out [] s.out [] faults) (sym whole) refl;
-      later = later;
-      dialled = same;
-    }
+module _ {L : Type 0} where
+  -- the message that was written last is gathered
+  pub gathered_taken : (link : Ghosts L) (s : Wire) (voice : Voice L) (slip : List ℕ) (desk later : Desked)
+      → Gathered s [] (wire link voice desk) → desk.slip ≡ slip
+      → later ≡ record desk { out = desk.out ++ desk.slip } → Gathered s slip (wire link voice later)
+  gathered_taken link s voice slip desk later said same is =
+      subst (λ (now : Desked). Gathered s slip (wire link voice now)) (sym is)
+      (gathered_put s (wire link voice desk) slip (desk.out ++ desk.slip) said
+      (ap (λ (last : List ℕ). desk.out ++ last) same))
+
+  -- a message was written, and gathered
+  pub gathered_slip : (link : Ghosts L) (voice : Voice L) (desk written : Desked) (slip : List ℕ) (t : Wire)
+      → written ≡ record desk { slip = slip } → Gathered (wire link voice written) written.slip t
+      → Gathered (wire link voice desk) slip t
+  gathered_slip link voice desk written slip t is said =
+      subst (λ (now : Desked). Gathered (wire link voice now) now.slip t) is said
+
+  -- the link was looked at
+  pub gathered_heard : (link : Ghosts L) (voice : Voice L) (to : L) (desk : Desked)
+      → link.taken to ≡ link.taken voice.link → link.dialled to ≡ link.dialled voice.link
+      → link.faults voice.link ≤ link.faults to
+      → Gathered (wire link voice desk) [] (wire link (record voice { link = to }) desk)
+  gathered_heard link voice to desk taken dialled later =
+      record {
+        sent = [];
+        grows =
+            subst (λ (now : Option (List ℕ)). Grows (link.taken voice.link) now []) (sym taken)
+            (grows_none (link.taken voice.link));
+        left = left_none voice.broken desk.out (link.faults to);
+        later = later;
+        dialled = dialled;
+      }

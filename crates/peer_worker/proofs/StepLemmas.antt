@@ -1,5 +1,6 @@
 -- One step more of each call of a session.
-use Rattle.std.proofs.Common.{ℕ, ◌≡◌, Bool, true, false, List, [], ◌∷◌, ◌++◌, Option, Some, None, refl, ap, sym, subst, ◌∙◌}
+use Rattle.std.proofs.Common.{ℕ, ◌≡◌, Bool, true, false, true≢false, List, [], ◌∷◌, ◌++◌, Option, Some, None}
+use Rattle.std.proofs.Common.{refl, ap, ap₂, sym, subst, ◌∙◌}
 use Rattle.route_values.specs.declared.addr.Family.{Family}
 use Rattle.route_values.specs.declared.settings.Settings.{Settings}
 use Rattle.route_values.specs.Caps.{Caps}
@@ -11,6 +12,7 @@ use Rattle.session_machine.specs.declared.event.Event.{Event}
 use Rattle.session_machine.specs.declared.event.Event.TheVariants as ev
 use Rattle.session_machine.specs.declared.state.State.{State}
 use Rattle.session_machine.specs.declared.state.State.TheVariants as st
+use Rattle.session_machine.specs.Session.{Session}
 use Rattle.session_machine.specs.Table.{table}
 use Rattle.book_history.specs.declared.outcomes.Cut.{Cut}
 use Rattle.book_history.specs.declared.outcomes.Cut.TheVariants as cut
@@ -23,7 +25,7 @@ use Rattle.book_gate.specs.Known.{Known}
 use Rattle.peer_worker.specs.declared.cause.Cause.{Cause}
 use Rattle.peer_worker.specs.Deeds.{Deed, Note, Say, Rise, Fall, Renew, Carve}
 use Rattle.peer_worker.specs.Goings.{Acts, CanCut, Carries, CutsOnce, Does, Fine, FineIf, Fits, Goes, IsEstablished}
-use Rattle.peer_worker.specs.Goings.{IsPlace, Leads, act_place, comes_up, is_end, is_idle, places}
+use Rattle.peer_worker.specs.Goings.{IsPlace, Leads, act_place, comes_up, is_end, is_idle, is_up, places}
 use Rattle.peer_worker.specs.Hearing.{IsOther}
 use Rattle.peer_worker.specs.Places.{Place, after_cause, after_cut, after_up, step, walk}
 use Rattle.peer_worker.specs.Places.Place.{Start, Opened, Confirmed, Raised, Live, Faulted, Parting, Over, Wrong}
@@ -95,6 +97,12 @@ is_established (st.Established agreed) st.Idle found is = absurd (cc)
 is_established (st.Established agreed) st.OpenSent found is = absurd (cc)
 is_established (st.Established agreed) (st.OpenConfirm now) found is = absurd (cc)
 
+can_cut : (state : State) → true ≡ is_up state → (place : Place) → Fits state place → CanCut place
+can_cut st.Idle on place fits = absurd (true≢false on)
+can_cut st.OpenSent on place fits = absurd (true≢false on)
+can_cut (st.OpenConfirm agreed) on place fits = absurd (true≢false on)
+can_cut (st.Established agreed) on place fits = subst CanCut (sym fits) tt
+
 module _ {A : Type 0} (n : ℕ) (own : Settings) where
   pub does_none : (pass : Known A Entry) (s : Wire) → Does n own pass s (Carries []) pass s
   does_none pass s = record { deeds = []; acts = acts_none n own pass s; law = λ place. refl }
@@ -108,6 +116,12 @@ module _ {A : Type 0} (n : ℕ) (own : Settings) where
         acts = acts_more n own pass between later s t u one.deeds other.deeds one.acts other.acts;
         law = carries_more todo more one.deeds other.deeds one.law other.law;
       }
+
+  -- the action that a match found
+  pub for_action : (pass later : Known A Entry) (s t : Wire) (action found : Action) → action ≡ found
+      → Does n own pass s (Carries (found ∷ [])) later t → Does n own pass s (Carries (action ∷ [])) later t
+  for_action pass later s t action found is does =
+      subst (λ (now : Action). Does n own pass s (Carries (now ∷ [])) later t) (sym is) does
 
   -- one deed
   pub does_deed : (pass later : Known A Entry) (s t : Wire) (action : Action) (deed : Deed)
@@ -124,6 +138,12 @@ module _ {A : Type 0} (n : ℕ) (own : Settings) where
   pub does_idly : (pass : Known A Entry) (s : Wire) (action : Action) → ((place : Place) → place ≡ act_place place action)
       → Does n own pass s (Carries (action ∷ [])) pass s
   does_idly pass s action same = record { deeds = []; acts = acts_none n own pass s; law = same }
+
+  -- a session comes up, for which nothing is done yet
+  pub does_up : (pass : Known A Entry) (s : Wire) (action : Action) (agreed : Agreed) → action ≡ act.Up agreed
+      → Does n own pass s (Carries (action ∷ [])) pass s
+  does_up pass s action agreed is =
+      for_action pass pass s s action (act.Up agreed) is (does_idly pass s (act.Up agreed) (λ place. refl))
 
   pub gate_kept : (pass later : Known A Entry) (s t : Wire) (holds : List Deed → Type 0)
       → Does n own pass s holds later t → later.gate ≡ pass.gate
@@ -307,3 +327,48 @@ module _ {A : Type 0} (n : ℕ) (own : Settings) where
   goes_over pass later s t from state on goes =
       goes_in pass later s t from from (Fits state) (Fits st.Idle) (λ place at. at)
       (λ place fits. idle_fits state place on fits) goes
+
+  -- what the table asks for was done, by the machine before and behind it
+  pub handled_none : (pass later : Known A Entry) (s t : Wire) (todo : List Action) (before behind : Session)
+      (was now : State) (event : Event) (found : Option Agreed) → Does n own pass s (Carries todo) later t
+      → todo ≡ (table before.own before.state event).actions
+      → behind ≡ record before { state = (table before.own before.state event).state } → was ≡ before.state
+      → now ≡ behind.state → found ≡ comes_up was now → found ≡ None
+      → Goes n own pass s (Fine before.own before.state event) (Fits behind.state) later t
+  handled_none pass later s t todo before behind was now event found does is to was_is now_is found_is none =
+      handled pass later s t todo before.own before.state behind.state event does is
+      (ap (λ (machine : Session). machine.state) to)
+      (sym none ∙ (found_is ∙ ap₂ comes_up was_is now_is))
+
+  pub handled_some : (pass between later : Known A Entry) (s t u : Wire) (todo : List Action)
+      (before behind : Session) (state : State) (was now : State) (event : Event) (found : Option Agreed)
+      (agreed : Agreed) → Does n own pass s (Carries todo) between t
+      → todo ≡ (table before.own before.state event).actions
+      → behind ≡ record before { state = (table before.own before.state event).state } → was ≡ before.state
+      → now ≡ behind.state → found ≡ comes_up was now → found ≡ Some agreed
+      → Goes n own between t (IsPlace Confirmed) (Fits state) later u
+      → Goes n own pass s (Fine before.own before.state event) (Fits state) later u
+  handled_some pass between later s t u todo before behind state was now event found agreed does is to was_is now_is
+      found_is some goes =
+      handled_up pass between later s t u todo before.own before.state behind.state state event agreed does is
+      (ap (λ (machine : Session). machine.state) to)
+      (sym some ∙ (found_is ∙ ap₂ comes_up was_is now_is)) goes
+
+  -- a session that stands is cut for
+  pub live_goes : (pass later : Known A Entry) (s t : Wire) (state : State) (to : Place → Type 0)
+      → true ≡ is_up state → Goes n own pass s CanCut to later t → Goes n own pass s (Fits state) to later t
+  live_goes pass later s t state to on goes =
+      goes_in pass later s t (Fits state) CanCut to to (can_cut state on) (λ place is. is) goes
+
+-- the session that came up stands
+pub is_found : (behind : Session) (was now : State) (found : Option Agreed) (agreed : Agreed) → now ≡ behind.state
+    → found ≡ comes_up was now → found ≡ Some agreed → IsEstablished behind.state
+is_found behind was now found agreed now_is found_is some =
+    subst IsEstablished now_is (is_established was now agreed (sym some ∙ found_is))
+
+-- the session that is up stands
+pub up_stands : (state : State) → true ≡ is_up state → IsEstablished state
+up_stands st.Idle on = absurd (true≢false on)
+up_stands st.OpenSent on = absurd (true≢false on)
+up_stands (st.OpenConfirm agreed) on = absurd (true≢false on)
+up_stands (st.Established agreed) on = tt

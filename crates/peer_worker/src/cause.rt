@@ -20,3 +20,11 @@ pub fn cause_of(given: Cut) -> Option<Cause>
         Cut::Down | Cut::Nothing | Cut::Message { .. } => None,
     }
 }
+
+/// Whether a cut gave a message.
+pub fn is_message(given: Cut) -> bool {
+    match given {
+        Cut::Message { .. } => true,
+        Cut::Down | Cut::Nothing | Cut::Reset { .. } => false,
+    }
+}

@@ -53,8 +53,8 @@ pub fn talk<R: Wait, D: Dialer, E: Ear, C: Clock, P: Pause>(
     unreachable!()
 }
 
-// Connects with these settings, talks, and gives the link back. Whether the session was ended because the daemon ends.
-fn visit<R: Wait, D: Dialer, E: Ear, C: Clock, P: Pause>(
+/// Connects with these settings, talks, and gives the link back. Whether the session was ended because the daemon ends.
+pub fn visit<R: Wait, D: Dialer, E: Ear, C: Clock, P: Pause>(
     rt: &R,
     gate: &Gate<Book>,
     pass: &mut Pass<Book>,

@@ -3,11 +3,11 @@ ghost use Rattle.std.specs.Prelude.{◌≡◌, ◌<◌, [], ◌∷◌};
 ghost use Rattle.config_model.specs.Limits.{max_peers};
 ghost use Rattle.peer_worker.specs.Deeds.{fallen};
 ghost use Rattle.peer_worker.specs.Goings.{Acts, CanCut, Carries, CutsOnce, Does, Fine, Fits, Goes};
-ghost use Rattle.peer_worker.specs.Goings.{IsEstablished, IsPlace, comes_up, idle};
+ghost use Rattle.peer_worker.specs.Goings.{IsEstablished, IsPlace, comes_up, idle, is_up};
 ghost use Rattle.peer_worker.specs.Places.{after_cause, after_cut, confirmed, faulted, over};
 ghost use Rattle.peer_worker.specs.Wires.{wire};
 
-use crate::cause::{Cause, cause_of};
+use crate::cause::{Cause, cause_of, is_message};
 use crate::desk::Desk;
 use crate::speaking::{flush, gather, say_keepalive, say_open, say_refusal};
 use crate::voice::Voice;
@@ -305,6 +305,32 @@ pub fn handle<R: Wait, L: Link, E: Ear>(
     }
 }
 
+// Has messages cut for a session that is up, and ends it where the book says so. Whether more are to be cut.
+fn cut_now<R: Wait, L: Link, E: Ear>(
+    rt: &R,
+    gate: &Gate<Book>,
+    pass: &mut Pass<Book>,
+    n: usize,
+    desk: &mut Desk,
+    voice: &mut Voice<L>,
+    ear: &mut E,
+    machine: &mut Machine,
+    own: Settings,
+) -> bool
+    requires gate { pass.old.gate ≡ gate.now }
+    requires slot { n < max_peers }
+    requires up { IsEstablished machine.old.state }
+    ensures { Goes n own pass.old (wire L.Link voice.old desk.old) CanCut (Fits machine.new.state)
+        pass.new (wire L.Link voice.new desk.new) }
+{
+    let given = cut_some(rt, gate, pass, n, desk, voice, own);
+    let more = is_message(given);
+    if let Some(cause) = cause_of(given) {
+        finish(rt, gate, pass, n, desk, voice, ear, machine, own, cause);
+    }
+    more
+}
+
 /// Has messages cut where a session is up, and ends it where the book says so. Whether more are to be cut.
 pub fn cut_if_up<R: Wait, L: Link, E: Ear>(
     rt: &R,
@@ -322,12 +348,18 @@ pub fn cut_if_up<R: Wait, L: Link, E: Ear>(
     ensures { Goes n own pass.old (wire L.Link voice.old desk.old) (Fits machine.old.state)
         (Fits machine.new.state) pass.new (wire L.Link voice.new desk.new) }
 {
-    let State::Established(_) = machine.state() else {
+    if !is_up(machine.state()) {
         return false;
-    };
-    let given = cut_some(rt, gate, pass, n, desk, voice, own);
-    if let Some(cause) = cause_of(given) {
-        finish(rt, gate, pass, n, desk, voice, ear, machine, own, cause);
     }
-    matches!(given, Cut::Message { .. })
+    cut_now(rt, gate, pass, n, desk, voice, ear, machine, own)
+}
+
+// Whether a session stands.
+fn is_up(state: State) -> bool
+    ensures { result ≡ is_up state }
+{
+    match state {
+        State::Idle | State::OpenSent | State::OpenConfirm(_) => false,
+        State::Established(_) => true,
+    }
 }

@@ -22,6 +22,32 @@ use std::sync::Wait;
 // How many bytes are received at once.
 const BUFFER: usize = 4_096;
 
+// Tells the session what came, and the timers whether there was a whole message.
+fn take_in<R: Wait, L: Link, E: Ear, C: Clock>(
+    rt: &R,
+    gate: &Gate<Book>,
+    pass: &mut Pass<Book>,
+    n: usize,
+    desk: &mut Desk,
+    voice: &mut Voice<L>,
+    ear: &mut E,
+    machine: &mut Machine,
+    own: Settings,
+    cutter: &mut FrameCutter,
+    piece: &[u8],
+    clock: C,
+    timers: &mut Timers,
+)
+    requires gate { pass.old.gate ≡ gate.now }
+    requires slot { n < max_peers }
+    ensures { Goes n own pass.old (wire L.Link voice.old desk.old) (Fits machine.old.state)
+        (Fits machine.new.state) pass.new (wire L.Link voice.new desk.new) }
+{
+    if hear(rt, gate, pass, n, desk, voice, ear, machine, own, cutter, piece) {
+        timers.hear(clock.now());
+    }
+}
+
 // Looks at the link once, and tells the session what came.
 fn listen<R: Wait, L: Link, E: Ear, C: Clock>(
     rt: &R,
@@ -48,12 +74,21 @@ fn listen<R: Wait, L: Link, E: Ear, C: Clock>(
     }
     let mut buffer = [0; BUFFER];
     match voice.link.recv(&mut buffer) {
-        Recv::Got(count) => {
-            let piece = &buffer[..count];
-            if hear(rt, gate, pass, n, desk, voice, ear, machine, own, cutter, piece) {
-                timers.hear(clock.now());
-            }
-        }
+        Recv::Got(count) => take_in(
+            rt,
+            gate,
+            pass,
+            n,
+            desk,
+            voice,
+            ear,
+            machine,
+            own,
+            cutter,
+            &buffer[..count],
+            clock,
+            timers,
+        ),
         Recv::Quiet => timers.rest(),
         Recv::End => handle(rt, gate, pass, n, desk, voice, ear, machine, own, Event::Lost),
         Recv::Failed => handle(rt, gate, pass, n, desk, voice, ear, machine, own, Event::Lost),

@@ -1,0 +1,5 @@
+use Rattle.peer_worker.proofs.SaidLemmas.{gathered_taken}
+use Rattle.peer_worker.proofs.speaking.gather.Goals as goal
+
+pub returns : goal.returns
+returns g c = gathered_taken _ _ _ _ _ _ c.make_room.ensures.said c.make_room.ensures.slip c.take_slip.ensures
