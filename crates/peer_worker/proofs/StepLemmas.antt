@@ -25,7 +25,7 @@ use Rattle.book_gate.specs.Known.{Known}
 use Rattle.peer_worker.specs.declared.cause.Cause.{Cause}
 use Rattle.peer_worker.specs.Deeds.{Deed, Note, Say, Rise, Fall, Renew, Carve}
 use Rattle.peer_worker.specs.Goings.{Acts, CanCut, Carries, CutsOnce, Does, Fine, FineIf, Fits, Goes, IsEstablished}
-use Rattle.peer_worker.specs.Goings.{IsPlace, Leads, act_place, comes_up, is_end, is_idle, is_up, places}
+use Rattle.peer_worker.specs.Goings.{IsPlace, Leads, act_place, comes_up, is_end, is_idle, places}
 use Rattle.peer_worker.specs.Hearing.{IsOther}
 use Rattle.peer_worker.specs.Places.{Place, after_cause, after_cut, after_up, step, walk}
 use Rattle.peer_worker.specs.Places.Place.{Start, Opened, Confirmed, Raised, Live, Faulted, Parting, Over, Wrong}
@@ -96,12 +96,6 @@ is_established (st.OpenConfirm agreed) (st.OpenConfirm now) found is = absurd (c
 is_established (st.Established agreed) st.Idle found is = absurd (cc)
 is_established (st.Established agreed) st.OpenSent found is = absurd (cc)
 is_established (st.Established agreed) (st.OpenConfirm now) found is = absurd (cc)
-
-can_cut : (state : State) → true ≡ is_up state → (place : Place) → Fits state place → CanCut place
-can_cut st.Idle on place fits = absurd (true≢false on)
-can_cut st.OpenSent on place fits = absurd (true≢false on)
-can_cut (st.OpenConfirm agreed) on place fits = absurd (true≢false on)
-can_cut (st.Established agreed) on place fits = subst CanCut (sym fits) tt
 
 module _ {A : Type 0} (n : ℕ) (own : Settings) where
   pub does_none : (pass : Known A Entry) (s : Wire) → Does n own pass s (Carries []) pass s
@@ -280,6 +274,18 @@ module _ {A : Type 0} (n : ℕ) (own : Settings) where
       (IsPlace Over) (Fits state) (λ place at. at)
       (λ place at. subst (λ (now : State). Fits now place) (sym idle) (ap is_end at)) other)
 
+  -- the same, by what a cut was answered
+  pub ended_cut : (pass between later : Known A Entry) (s t u : Wire) (from : Place → Type 0) (cause : Cause)
+      (answer : Cut) (given : Option Cause) (state : State) → Goes n own pass s from (IsPlace (after_cut answer)) between t
+      → after_cause given ≡ after_cut answer → given ≡ Some cause
+      → Goes n own between t (IsPlace (Faulted cause.code cause.sub)) (IsPlace Over) later u
+      → state ≡ st.Idle → Goes n own pass s from (Fits state) later u
+  ended_cut pass between later s t u from cause answer given state goes same is other idle =
+      ended_for pass between later s t u from cause given state
+      (goes_in pass between s t from from (IsPlace (after_cut answer)) (IsPlace (after_cause given)) (λ place at. at)
+      (λ place at. at ∙ sym same) goes)
+      is other idle
+
   -- the session goes on
   pub goes_on : (pass later : Known A Entry) (s t : Wire) (from : Place → Type 0) (given : Option Cause) (state : State)
       → Goes n own pass s from (IsPlace (after_cause given)) later t → given ≡ None → IsEstablished state
@@ -290,6 +296,16 @@ module _ {A : Type 0} (n : ℕ) (own : Settings) where
   goes_on pass later s t from given (st.Established agreed) goes none is =
       goes_in pass later s t from from (IsPlace (after_cause given)) (IsPlace Live) (λ place at. at)
       (λ place at. at ∙ ap after_cause none) goes
+
+  pub cut_on : (pass later : Known A Entry) (s t : Wire) (from : Place → Type 0) (answer : Cut) (given : Option Cause)
+      (state : State) → Goes n own pass s from (IsPlace (after_cut answer)) later t
+      → after_cause given ≡ after_cut answer → given ≡ None → IsEstablished state
+      → Goes n own pass s from (Fits state) later t
+  cut_on pass later s t from answer given state goes same none is =
+      goes_on pass later s t from given state
+      (goes_in pass later s t from from (IsPlace (after_cut answer)) (IsPlace (after_cause given)) (λ place at. at)
+      (λ place at. at ∙ sym same) goes)
+      none is
 
   -- an event that may come wherever the session may be
   pub handled_other : (pass later : Known A Entry) (s t : Wire) (other : Settings) (state state' : State) (event : Event)
@@ -355,10 +371,14 @@ module _ {A : Type 0} (n : ℕ) (own : Settings) where
       (sym some ∙ (found_is ∙ ap₂ comes_up was_is now_is)) goes
 
   -- a session that stands is cut for
-  pub live_goes : (pass later : Known A Entry) (s t : Wire) (state : State) (to : Place → Type 0)
-      → true ≡ is_up state → Goes n own pass s CanCut to later t → Goes n own pass s (Fits state) to later t
-  live_goes pass later s t state to on goes =
-      goes_in pass later s t (Fits state) CanCut to to (can_cut state on) (λ place is. is) goes
+  pub live_goes : (pass later : Known A Entry) (s t : Wire) (state found : State) (agreed : Agreed)
+      (to : Place → Type 0) → found ≡ state → found ≡ st.Established agreed → Goes n own pass s CanCut to later t
+      → Goes n own pass s (Fits state) to later t
+  live_goes pass later s t state found agreed to same is goes =
+      goes_in pass later s t (Fits state) CanCut to to
+      (λ place fits.
+          subst CanCut (sym (subst (λ (now : State). Fits now place) (sym same ∙ is) fits)) tt)
+      (λ place at. at) goes
 
 -- the session that came up stands
 pub is_found : (behind : Session) (was now : State) (found : Option Agreed) (agreed : Agreed) → now ≡ behind.state
@@ -367,8 +387,6 @@ is_found behind was now found agreed now_is found_is some =
     subst IsEstablished now_is (is_established was now agreed (sym some ∙ found_is))
 
 -- the session that is up stands
-pub up_stands : (state : State) → true ≡ is_up state → IsEstablished state
-up_stands st.Idle on = absurd (true≢false on)
-up_stands st.OpenSent on = absurd (true≢false on)
-up_stands (st.OpenConfirm agreed) on = absurd (true≢false on)
-up_stands (st.Established agreed) on = tt
+pub up_stands : (state found : State) (agreed : Agreed) → found ≡ state → found ≡ st.Established agreed
+    → IsEstablished state
+up_stands state found agreed same is = subst IsEstablished (sym (sym same ∙ is)) tt

@@ -70,12 +70,6 @@ is_idle st.OpenSent = false
 is_idle (st.OpenConfirm agreed) = false
 is_idle (st.Established agreed) = false
 
-abbrev pub is_up : State → Bool
-is_up st.Idle = false
-is_up st.OpenSent = false
-is_up (st.OpenConfirm agreed) = false
-is_up (st.Established agreed) = true
-
 abbrev pub IsEstablished : State → Type 0
 IsEstablished st.Idle = ⊥
 IsEstablished st.OpenSent = ⊥

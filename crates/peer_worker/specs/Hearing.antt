@@ -1,5 +1,7 @@
 -- What a whole message may be, and what it may tell a session.
 use Rattle.std.specs.Prelude.{ℕ, ◌≡◌, ◌≤◌, ⊤, List, length}
+use Rattle.outside.specs.declared.link.Recv.{Recv}
+use Rattle.outside.specs.declared.link.Recv.TheVariants.{Got, End, Quiet, Failed}
 use Rattle.session_machine.specs.declared.event.Event.{Event}
 use Rattle.session_machine.specs.declared.event.Event.TheVariants as ev
 
@@ -24,3 +26,10 @@ IsOther ev.HoldExpired = ⊤
 IsOther ev.KeepaliveDue = ⊤
 IsOther ev.Lost = ⊤
 IsOther (ev.Stop code sub) = ⊤
+
+-- what a link gave is within a buffer of so many bytes
+abbrev pub IsWithin : Recv → ℕ → Type 0
+IsWithin (Got count) len = count ≤ len
+IsWithin End len = ⊤
+IsWithin Quiet len = ⊤
+IsWithin Failed len = ⊤

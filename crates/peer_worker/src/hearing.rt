@@ -1,5 +1,7 @@
 //! What is heard on a link.
-ghost use Rattle.std.specs.Prelude.{◌≡◌, ◌<◌};
+ghost use Rattle.std.specs.Prelude.{◌≡◌, ◌<◌, ◌≤◌, length};
+ghost use Rattle.frame_cutter.specs.Cutting.{front_of};
+ghost use Rattle.frame_cutter.specs.Front.{IsWhole};
 ghost use Rattle.config_model.specs.Limits.{max_peers};
 ghost use Rattle.peer_worker.specs.Goings.{Fits, Goes, is_idle};
 ghost use Rattle.peer_worker.specs.Hearing.{IsMessage, IsOther};
@@ -55,10 +57,26 @@ fn hear_message<R: Wait, L: Link, E: Ear>(
 {
     let event = event_of(kind, body, &own);
     handle(rt, gate, pass, n, desk, voice, ear, machine, own, event);
-    if kind == UPDATE {
-        if let State::Established(_) = machine.state() {
-            ear.heard(rt, n, body);
-        }
+    tell_ear(rt, n, ear, machine.state(), kind, body);
+}
+
+// Tells the ear of the body of an UPDATE, where the session stands behind it.
+fn tell_ear<R: Wait, E: Ear>(
+    rt: &R,
+    n: usize,
+    ear: &mut E,
+    state: State,
+    kind: u8,
+    body: &[u8],
+)
+    requires { length body.now ≤ 65516 }
+{
+    if kind != UPDATE {
+        return;
+    }
+    match state {
+        State::Idle | State::OpenSent | State::OpenConfirm(_) => {}
+        State::Established(_) => ear.heard(rt, n, body),
     }
 }
 
@@ -82,20 +100,28 @@ fn hear_front<R: Wait, L: Link, E: Ear>(
 {
     let was = machine.state();
     match cutter.peek() {
-        Next::NotYet => return false,
+        Next::NotYet => false,
         Next::Fault(refusal) => {
             let event = Event::Bad(refusal);
             handle(rt, gate, pass, n, desk, voice, ear, machine, own, event);
+            true
         }
         Next::Frame { kind, body } => {
             hear_message(rt, gate, pass, n, desk, voice, ear, machine, own, kind, body);
-            if widens(was, machine.state()) {
-                cutter.widen();
-            }
+            pass_message(cutter, widens(was, machine.state()));
+            true
         }
     }
+}
+
+// Passes the message in front, behind which messages may be long from now on.
+fn pass_message(cutter: &mut FrameCutter, wide: bool)
+    requires { IsWhole (front_of cutter.old) }
+{
+    if wide {
+        cutter.widen();
+    }
     cutter.advance();
-    true
 }
 
 // Whether both sides agreed on long messages between two states.

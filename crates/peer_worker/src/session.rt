@@ -3,7 +3,7 @@ ghost use Rattle.std.specs.Prelude.{◌≡◌, ◌<◌, [], ◌∷◌};
 ghost use Rattle.config_model.specs.Limits.{max_peers};
 ghost use Rattle.peer_worker.specs.Deeds.{fallen};
 ghost use Rattle.peer_worker.specs.Goings.{Acts, CanCut, Carries, CutsOnce, Does, Fine, Fits, Goes};
-ghost use Rattle.peer_worker.specs.Goings.{IsEstablished, IsPlace, comes_up, idle, is_up};
+ghost use Rattle.peer_worker.specs.Goings.{IsEstablished, IsPlace, comes_up, idle};
 ghost use Rattle.peer_worker.specs.Places.{after_cause, after_cut, confirmed, faulted, over};
 ghost use Rattle.peer_worker.specs.Wires.{wire};
 
@@ -273,8 +273,9 @@ fn begin<R: Wait, L: Link, E: Ear>(
     ensures { Goes n own pass.old (wire L.Link voice.old desk.old) (IsPlace confirmed)
         (Fits machine.new.state) pass.new (wire L.Link voice.new desk.new) }
 {
-    if let Some(cause) = raise(rt, gate, pass, n, desk, voice, ear, own, agreed) {
-        finish(rt, gate, pass, n, desk, voice, ear, machine, own, cause);
+    match raise(rt, gate, pass, n, desk, voice, ear, own, agreed) {
+        Some(cause) => finish(rt, gate, pass, n, desk, voice, ear, machine, own, cause),
+        None => {}
     }
 }
 
@@ -300,8 +301,9 @@ pub fn handle<R: Wait, L: Link, E: Ear>(
     let was = machine.state();
     let todo = machine.step(event);
     act_all(rt, gate, pass, n, desk, voice, ear, own, todo.as_slice());
-    if let Some(agreed) = come_up(was, machine.state()) {
-        begin(rt, gate, pass, n, desk, voice, ear, machine, own, &agreed);
+    match come_up(was, machine.state()) {
+        Some(agreed) => begin(rt, gate, pass, n, desk, voice, ear, machine, own, &agreed),
+        None => {}
     }
 }
 
@@ -324,11 +326,13 @@ fn cut_now<R: Wait, L: Link, E: Ear>(
         pass.new (wire L.Link voice.new desk.new) }
 {
     let given = cut_some(rt, gate, pass, n, desk, voice, own);
-    let more = is_message(given);
-    if let Some(cause) = cause_of(given) {
-        finish(rt, gate, pass, n, desk, voice, ear, machine, own, cause);
+    match cause_of(given) {
+        Some(cause) => {
+            finish(rt, gate, pass, n, desk, voice, ear, machine, own, cause);
+            false
+        }
+        None => is_message(given),
     }
-    more
 }
 
 /// Has messages cut where a session is up, and ends it where the book says so. Whether more are to be cut.
@@ -348,18 +352,10 @@ pub fn cut_if_up<R: Wait, L: Link, E: Ear>(
     ensures { Goes n own pass.old (wire L.Link voice.old desk.old) (Fits machine.old.state)
         (Fits machine.new.state) pass.new (wire L.Link voice.new desk.new) }
 {
-    if !is_up(machine.state()) {
-        return false;
-    }
-    cut_now(rt, gate, pass, n, desk, voice, ear, machine, own)
-}
-
-// Whether a session stands.
-fn is_up(state: State) -> bool
-    ensures { result ≡ is_up state }
-{
-    match state {
-        State::Idle | State::OpenSent | State::OpenConfirm(_) => false,
-        State::Established(_) => true,
+    match machine.state() {
+        State::Idle => false,
+        State::OpenSent => false,
+        State::OpenConfirm(_) => false,
+        State::Established(_) => cut_now(rt, gate, pass, n, desk, voice, ear, machine, own),
     }
 }

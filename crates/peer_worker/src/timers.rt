@@ -8,6 +8,17 @@ pub struct Timers {
     quiets: u64,
 }
 
+/// What is due.
+#[derive(Clone, Copy, Debug, PartialEq, Eq)]
+pub enum Due {
+    /// Nothing.
+    Nothing,
+    /// A KEEPALIVE is to be said.
+    Keepalive,
+    /// The session is over.
+    Over,
+}
+
 impl Timers {
     /// Of a session that begins at this moment.
     pub fn new(now: u64) -> Timers {
@@ -32,6 +43,24 @@ impl Timers {
     /// A KEEPALIVE was said.
     pub fn keep(&mut self, now: u64) {
         self.kept = now;
+    }
+
+    /// A KEEPALIVE was said, if so.
+    pub fn keep_if(&mut self, said: bool, now: u64) {
+        if said {
+            self.keep(now);
+        }
+    }
+
+    /// What is due at a moment.
+    pub fn due(&self, hold: u16, now: u64) -> Due {
+        if self.is_over(hold, now) {
+            return Due::Over;
+        }
+        if self.is_due(hold, now) {
+            return Due::Keepalive;
+        }
+        Due::Nothing
     }
 
     /// Whether no message came for as long as the hold time of so many seconds, where 0 says that there is none

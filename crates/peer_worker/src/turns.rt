@@ -1,15 +1,17 @@
 //! The turns of a session: what is to be sent, a look at the link, the timers.
-ghost use Rattle.std.specs.Prelude.{◌≡◌, ◌<◌, []};
+ghost use Rattle.std.specs.Prelude.{◌≡◌, ◌<◌, [], length};
 ghost use Rattle.config_model.specs.Limits.{max_peers};
 ghost use Rattle.peer_worker.specs.Goings.{Fits, Goes, IsPlace, idle};
 ghost use Rattle.peer_worker.specs.Places.{start};
-ghost use Rattle.peer_worker.specs.Wires.{wire};
+ghost use Rattle.peer_worker.specs.Desks.{Desked};
+ghost use Rattle.peer_worker.specs.Hearing.{IsWithin};
+ghost use Rattle.peer_worker.specs.Wires.{Gathered, wire};
 
 use crate::desk::Desk;
 use crate::hearing::{hear, is_idle};
 use crate::session::{cut_if_up, handle};
 use crate::speaking::flush;
-use crate::timers::Timers;
+use crate::timers::{Due, Timers};
 use crate::voice::Voice;
 use book_core::Book;
 use book_gate::{Gate, Pass};
@@ -48,6 +50,19 @@ fn take_in<R: Wait, L: Link, E: Ear, C: Clock>(
     }
 }
 
+// Looks at the link once, unless a send on it failed.
+fn look<L: Link>(voice: &mut Voice<L>, into: &mut [u8]) -> Recv
+    requires { 0 < length into.old }
+    ensures still { (desk : Desked) → Gathered (wire L.Link voice.old desk) []
+        (wire L.Link voice.new desk) }
+    ensures within { IsWithin result (length into.new) }
+{
+    if voice.broken {
+        return Recv::Failed;
+    }
+    voice.link.recv(into)
+}
+
 // Looks at the link once, and tells the session what came.
 fn listen<R: Wait, L: Link, E: Ear, C: Clock>(
     rt: &R,
@@ -68,12 +83,8 @@ fn listen<R: Wait, L: Link, E: Ear, C: Clock>(
     ensures { Goes n own pass.old (wire L.Link voice.old desk.old) (Fits machine.old.state)
         (Fits machine.new.state) pass.new (wire L.Link voice.new desk.new) }
 {
-    if voice.broken {
-        handle(rt, gate, pass, n, desk, voice, ear, machine, own, Event::Lost);
-        return;
-    }
     let mut buffer = [0; BUFFER];
-    match voice.link.recv(&mut buffer) {
+    match look(voice, &mut buffer) {
         Recv::Got(count) => take_in(
             rt,
             gate,
@@ -90,8 +101,14 @@ fn listen<R: Wait, L: Link, E: Ear, C: Clock>(
             timers,
         ),
         Recv::Quiet => timers.rest(),
-        Recv::End => handle(rt, gate, pass, n, desk, voice, ear, machine, own, Event::Lost),
-        Recv::Failed => handle(rt, gate, pass, n, desk, voice, ear, machine, own, Event::Lost),
+        Recv::End => {
+            let lost = Event::Lost;
+            handle(rt, gate, pass, n, desk, voice, ear, machine, own, lost);
+        }
+        Recv::Failed => {
+            let lost = Event::Lost;
+            handle(rt, gate, pass, n, desk, voice, ear, machine, own, lost);
+        }
     }
 }
 
@@ -114,12 +131,17 @@ fn tick<R: Wait, L: Link, E: Ear>(
     ensures { Goes n own pass.old (wire L.Link voice.old desk.old) (Fits machine.old.state)
         (Fits machine.new.state) pass.new (wire L.Link voice.new desk.new) }
 {
-    let hold = machine.hold();
-    if timers.is_over(hold, now) {
-        handle(rt, gate, pass, n, desk, voice, ear, machine, own, Event::HoldExpired);
-    } else if timers.is_due(hold, now) {
-        timers.keep(now);
-        handle(rt, gate, pass, n, desk, voice, ear, machine, own, Event::KeepaliveDue);
+    match timers.due(machine.hold(), now) {
+        Due::Nothing => {}
+        Due::Keepalive => {
+            timers.keep(now);
+            let due = Event::KeepaliveDue;
+            handle(rt, gate, pass, n, desk, voice, ear, machine, own, due);
+        }
+        Due::Over => {
+            let over = Event::HoldExpired;
+            handle(rt, gate, pass, n, desk, voice, ear, machine, own, over);
+        }
     }
 }
 
@@ -157,10 +179,15 @@ fn turn<R: Wait, L: Link, E: Ear, C: Clock>(
     let was = machine.state();
     listen(rt, gate, pass, n, desk, voice, ear, machine, own, cutter, clock, timers);
     let now = clock.now();
-    if is_taken(was, machine.state()) {
-        timers.keep(now);
-    }
+    timers.keep_if(is_taken(was, machine.state()), now);
     tick(rt, gate, pass, n, desk, voice, ear, machine, own, now, timers);
+}
+
+// Lets the next look at the link wait for nothing, where there is more to do.
+fn ring_if<P: Pause>(pause: P, more: bool) {
+    if more {
+        pause.ring();
+    }
 }
 
 /// Talks on a new link until no session stands and none begins. Nothing that was said is left to be sent then.
@@ -194,9 +221,7 @@ pub fn converse<R: Wait, L: Link, E: Ear, C: Clock, P: Pause>(
         if is_idle(machine.state()) {
             return;
         }
-        if more {
-            pause.ring();
-        }
+        ring_if(pause, more);
         turn(
             rt,
             gate,
