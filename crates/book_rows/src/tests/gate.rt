@@ -108,9 +108,9 @@ fn takes<R: Wait>(
     'times: for time in 0..17 {
         let take = gate.enter(rt, pass, TakeCall { h: HELPER, inc: 1 });
         let wanted = match time {
-            15 => "40 replies",
+            15 => "40 done",
             16 => "nothing",
-            _ => "64 replies",
+            _ => "64 done",
         };
         if of_count(alloc, take)?.as_str() != wanted {
             return Err("other replies".into());
