@@ -16,15 +16,11 @@ use Rattle.script_play.specs.declared.player.Player.{Player}
 use Rattle.script_play.specs.Player.{PlayerStands}
 use Rattle.script_play.specs.Writing.{Writes, Wrote}
 use Rattle.script_play.specs.Encoding.{Added, AddedBy, AddedPart, FrontAdded, Printed, PrintedPart, StopsWriting}
-use Rattle.script_play.specs.Encoding.{WritesText, WrotePart}
-
--- what isn't touched has grown by nothing
-pub told_none : (told : Option (List ℕ)) → Grows told told []
-told_none None = tt
-told_none (Some bytes) = sym (append-nil bytes)
+use Rattle.script_play.specs.Encoding.{WrotePart}
+use Rattle.script_play.proofs.PlayedLemmas.{grows_none}
 
 pub wrote_none : (sink : SinkSeen) → Wrote [] sink sink
-wrote_none sink = record { taken = told_none sink.taken; same = refl }
+wrote_none sink = record { taken = grows_none sink.taken; same = refl }
 
 pub wrote_both : (first second : List ℕ) (sink mid sink' : SinkSeen) → Wrote first sink mid → Wrote second mid sink'
     → Wrote (first ++ second) sink sink'
@@ -45,7 +41,7 @@ wrote_part first second sink mid sink' one other = record {
 
 -- nothing of a text, or all
 pub part_none : (text : List ℕ) (sink : SinkSeen) → WrotePart text sink sink
-part_none text sink = record { part = []; rest = text; text_is = refl; taken = told_none sink.taken }
+part_none text sink = record { part = []; rest = text; text_is = refl; taken = grows_none sink.taken }
 
 pub part_all : (text : List ℕ) (sink sink' : SinkSeen) → Wrote text sink sink' → WrotePart text sink sink'
 part_all text sink sink' wrote = record {
@@ -56,14 +52,14 @@ part_all text sink sink' wrote = record {
 }
 
 -- a call that stopped behind what was written
-pub stops_later : (sink mid sink' : SinkSeen) (halted : Halt) → mid.faults ≡ sink.faults → StopsWriting mid sink' halted
+pub writes_later : (sink mid sink' : SinkSeen) (halted : Halt) → mid.faults ≡ sink.faults → StopsWriting mid sink' halted
     → StopsWriting sink sink' halted
-stops_later sink mid sink' halt.Memory same stops = stops ∙ same
-stops_later sink mid sink' halt.Write same stops = subst (λ (before : ℕ). CountsOne before sink'.faults) same stops
-stops_later sink mid sink' halt.Read same stops = absurd stops
-stops_later sink mid sink' halt.Long same stops = absurd stops
-stops_later sink mid sink' halt.File same stops = absurd stops
-stops_later sink mid sink' (halt.Script line) same stops = absurd stops
+writes_later sink mid sink' halt.Memory same stops = stops ∙ same
+writes_later sink mid sink' halt.Write same stops = subst (λ (before : ℕ). CountsOne before sink'.faults) same stops
+writes_later sink mid sink' halt.Read same stops = absurd stops
+writes_later sink mid sink' halt.Long same stops = absurd stops
+writes_later sink mid sink' halt.File same stops = absurd stops
+writes_later sink mid sink' (halt.Script line) same stops = absurd stops
 
 -- what is printed of entries that were added
 pub all_both : (text : Entry → List ℕ) (added H : History) → all_of text (added ++ H) ≡ all_of text H ++ all_of text added

@@ -16,7 +16,7 @@ use Rattle.script_play.specs.declared.halt.Halt.{Halt}
 use Rattle.script_play.specs.declared.player.Player.{Player}
 use Rattle.script_play.specs.Player.{PlayerStands}
 use Rattle.script_play.specs.Encoding.{AnswersLine, AnswersPiece}
-use Rattle.script_play.proofs.AddedLemmas.{added_both, added_none, added_one, front_both, front_one, stops_later}
+use Rattle.script_play.proofs.AddedLemmas.{added_both, added_none, added_one, front_both, front_one, writes_later}
 
 -- what is gone of a piece, and what is left
 parts : (piece gone rest : List ℕ) (count : ℕ) → piece ≡ gone ++ rest
@@ -125,7 +125,7 @@ answers_stopped piece front behind line held after last was between player now s
             front_both AddsAnswer cfg H before.more (line ∷ stay.0) between sink mid sink' before.answered
             (front_one AddsAnswer cfg (before.answered.added ++ H) line stay.0 mid sink' part.0);
       },
-      stops_later sink mid sink' halted before.answered.wrote.same part.1,
+      writes_later sink mid sink' halted before.answered.wrote.same part.1,
     )
 
 pub front_goes_on : (piece rest left : List ℕ) (line : Line) (held held' after held'' : Cutting) (count : ℕ)

@@ -18,8 +18,9 @@ use Rattle.script_play.specs.Streams.{ReadPart, ReadWhole, input_limit}
 use Rattle.script_play.specs.Writing.{Wrote}
 use Rattle.script_play.specs.Encoding.{Added, AddedBy, AnsweredPart, AnsweredSoFar, AnsweredWhole, AnswersSource, AreAnswered}
 use Rattle.script_play.specs.Encoding.{EncodedPart, EncodedSoFar, EncodedWhole, Encodes, FrontAdded, Started, StopsWriting}
-use Rattle.script_play.specs.Encoding.{WorksOff, WrotePart, ended_as, part, unopened}
-use Rattle.script_play.proofs.AddedLemmas.{all_both, stops_later, wrote_both, wrote_part}
+use Rattle.script_play.specs.Encoding.{WorksOff, WrotePart, part}
+use Rattle.script_play.specs.Streams.{status_by}
+use Rattle.script_play.proofs.AddedLemmas.{all_both, writes_later, wrote_both, wrote_part}
 
 -- what is printed behind entries of which nothing is
 printed_behind : (raised added : History) → all_of encoded raised ≡ []
@@ -28,10 +29,10 @@ printed_behind raised added silent =
     sym (all_both encoded added raised ∙ ap (λ (front : List ℕ). front ++ all_of encoded added) silent)
 
 module _ (cfg : Sections) (source source' : SourceSeen) (sink sink' : SinkSeen) where
-  so_far : (opened player : Player) (last : List ℕ) (started : Started cfg cfg.neighbors opened)
+  abbrev encoded_so_far : (opened player : Player) (last : List ℕ) (started : Started cfg cfg.neighbors opened)
       → AnsweredSoFar cfg last started.raised player source source' sink sink'
       → EncodedSoFar cfg last source source' sink sink'
-  so_far opened player last started was =
+  encoded_so_far opened player last started was =
       let history : History = was.answered.added ++ started.raised in
       record {
         bytes = was.bytes;
@@ -86,7 +87,7 @@ module _ (cfg : Sections) (source source' : SourceSeen) (sink sink' : SinkSeen) 
 
   pub lines_stopped : (opened player : Player) (halted : Halt) → Started cfg cfg.neighbors opened
       → ((H : History) → PlayerStands cfg H opened → AnswersSource cfg H player source source' sink sink' (Err halted))
-      → Encodes cfg source source' sink sink' (ended_as (Err halted))
+      → Encodes cfg source source' sink sink' (status_by (Err halted))
   lines_stopped opened player halt.Memory started answers =
       let stopped = answers started.raised started.stands in
       (part (lines_part opened started stopped.0), stopped.1)
@@ -95,10 +96,15 @@ module _ (cfg : Sections) (source source' : SourceSeen) (sink sink' : SinkSeen) 
       (lines_part opened started stopped.0, stopped.1)
   lines_stopped opened player halt.Read started answers =
       let stopped = answers started.raised started.stands in
-      (so_far opened player [] started stopped.0, stopped.1)
+      (encoded_so_far opened player [] started stopped.0, stopped.1)
   lines_stopped opened player halt.Long started answers =
       let stopped = answers started.raised started.stands in
-      (stopped.0, stopped.1, so_far opened player stopped.0 started stopped.2, stopped.3)
+      record {
+        last = stopped.last;
+        few = stopped.few;
+        so_far = encoded_so_far opened player stopped.last started stopped.so_far;
+        gave = stopped.gave;
+      }
   lines_stopped opened player halt.File started answers = absurd (answers started.raised started.stands).1
   lines_stopped opened player (halt.Script line) started answers = absurd (answers started.raised started.stands).1
 
@@ -175,12 +181,12 @@ module _ (cfg : Sections) (source source' : SourceSeen) (sink mid sink' : SinkSe
   cuts_after : (opened between player : Player) (started : Started cfg cfg.neighbors opened)
       (was : AnsweredWhole cfg started.raised between source source' sink mid) (result : Result (Unit {0}) Halt)
       → WorksOff AddsCuts (numbered 0 cfg.neighbors) cfg (was.answered.added ++ started.raised) player mid sink' result
-      → Encodes cfg source source' sink sink' (ended_as result)
+      → Encodes cfg source source' sink sink' (status_by result)
   cuts_after opened between player started was (Ok done) cuts = cut_whole opened between player started was cuts
   cuts_after opened between player started was (Err halt.Memory) (cuts, stops) =
-      (part (cut_part opened between started was cuts), stops_later sink mid sink' halt.Memory was.answered.wrote.same stops)
+      (part (cut_part opened between started was cuts), writes_later sink mid sink' halt.Memory was.answered.wrote.same stops)
   cuts_after opened between player started was (Err halt.Write) (cuts, stops) =
-      (cut_part opened between started was cuts, stops_later sink mid sink' halt.Write was.answered.wrote.same stops)
+      (cut_part opened between started was cuts, writes_later sink mid sink' halt.Write was.answered.wrote.same stops)
   cuts_after opened between player started was (Err halt.Read) (cuts, stops) = absurd stops
   cuts_after opened between player started was (Err halt.Long) (cuts, stops) = absurd stops
   cuts_after opened between player started was (Err halt.File) (cuts, stops) = absurd stops
@@ -191,7 +197,7 @@ module _ (cfg : Sections) (source source' : SourceSeen) (sink mid sink' : SinkSe
       → ((H : History) → PlayerStands cfg H opened → AnswersSource cfg H between source source' sink mid (Ok tt))
       → ((H : History) → PlayerStands cfg H between
       → WorksOff AddsCuts (numbered 0 cfg.neighbors) cfg H player mid sink' result)
-      → Encodes cfg source source' sink sink' (ended_as result)
+      → Encodes cfg source source' sink sink' (status_by result)
   lines_and_cuts opened between player result started answers cuts =
       let was = answers started.raised started.stands in
       cuts_after opened between player started was result

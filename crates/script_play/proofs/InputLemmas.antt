@@ -17,15 +17,12 @@ use Rattle.script_play.specs.declared.halt.Halt.{Halt}
 use Rattle.script_play.specs.declared.halt.Halt.TheVariants as halt
 use Rattle.script_play.specs.declared.player.Player.{Player}
 use Rattle.script_play.specs.Player.{PlayerStands}
-use Rattle.script_play.specs.Streams.{GaveLimit, ReadPart, ReadWhole, input_limit}
+use Rattle.script_play.specs.Streams.{ReadPart, input_limit, read_limit}
 use Rattle.script_play.specs.Encoding.{Added, AddedBy, AnsweredPart, AnsweredSoFar, AnsweredWhole, AnswersPiece}
-use Rattle.script_play.specs.Encoding.{AnswersSource, FrontAdded, StopsWriting, max_piece}
-use Rattle.script_play.proofs.AddedLemmas.{added_both, added_none, front_both, stops_later, told_none}
-
--- what has lost nothing
-left_none : (told : Option (List ℕ)) → Shrinks told told []
-left_none None = tt
-left_none (Some bytes) = refl
+use Rattle.script_play.specs.Encoding.{AnswersSource, FrontAdded, StopsWriting}
+use Rattle.script_play.proofs.AddedLemmas.{added_both, added_none, front_both, writes_later}
+use Rattle.script_play.proofs.PlayedLemmas.{grows_none}
+use Rattle.script_play.proofs.StreamLemmas.{GavePiece, MetEnd, all_left, left_from, none_gave, shrinks_none}
 
 -- so many bytes were read, and the lines that end in them were answered
 pub record InputSoFar (cfg : Sections) (H : History) (held : Cutting) (player : Player) (source source' : SourceSeen)
@@ -43,52 +40,14 @@ pub input_none : (cfg : Sections) (H : History) (held : Cutting) (player : Playe
     → held ≡ fresh → PlayerStands cfg H player → InputSoFar cfg H held player source source sink sink 0
 input_none cfg H held player source sink new stands = record {
   bytes = [];
-  given = told_none source.given;
-  left = left_none source.left;
+  given = grows_none source.given;
+  left = shrinks_none source.left;
   ended = refl;
   unfailed = refl;
   count_is = refl;
   cut = subst (λ (now : Cutting). HasCut [] [] now) (sym new) cut_begins;
   answered = added_none AddsAnswer cfg H player sink stands;
 }
-
--- a source gave a piece
-pub record GavePiece (source source' : SourceSeen) (piece : List ℕ) : Type 0 where
-  pub given : Grows source.given source'.given piece
-  pub left : Shrinks source.left source'.left piece
-  pub ended : source'.ended ≡ source.ended
-  pub unfailed : source'.faults ≡ source.faults
-
-pub got_piece : (source source' : SourceSeen) (into behind : List ℕ) (got : ℕ) → got ≤ length into
-    → Grows source.given source'.given (take got into) → Shrinks source.left source'.left (take got into)
-    → source'.ended ≡ source.ended → source'.faults ≡ source.faults
-    → GavePiece source source' (take got (into ++ behind))
-got_piece source source' into behind got within given left ended unfailed =
-    let same : take got into ≡ take got (into ++ behind) = sym (take-append-le got into behind within) in
-    record {
-      given = subst (λ (piece : List ℕ). Grows source.given source'.given piece) same given;
-      left = subst (λ (piece : List ℕ). Shrinks source.left source'.left piece) same left;
-      ended = ended;
-      unfailed = unfailed;
-    }
-
-pub got_length : (into behind : List ℕ) (got : ℕ) → got ≤ length into → length (take got (into ++ behind)) ≡ got
-got_length into behind got within =
-    omega (arith, length-take got (into ++ behind), length-append into behind, within)
-
--- what fits the room in the buffer stays within the limit, and leaves the buffer as long as it was
-pub got_within : (count limit room got : ℕ) (into buffer : List ℕ) → room ≡ min 65536 (limit - count)
-    → length into ≡ length (take room buffer) → got ≤ length into → count ≤ limit → count + got ≤ limit
-got_within count limit room got into buffer is same within short = omega (arith, length-take room buffer)
-
-pub got_few : (rest room got : ℕ) (into buffer : List ℕ) → room ≡ min 65536 rest
-    → length into ≡ length (take room buffer) → got ≤ length into → got ≤ 65536
-got_few rest room got into buffer is same within = omega (arith, length-take room buffer)
-
-pub buffer_stays : (rest room : ℕ) (into buffer : List ℕ) → room ≡ min 65536 rest
-    → length into ≡ length (take room buffer) → length buffer ≡ 65536 → length (into ++ drop room buffer) ≡ 65536
-buffer_stays rest room into buffer is same long =
-    omega (arith, length-append into (drop room buffer), length-take room buffer, length-drop room buffer)
 
 pub input_more : (cfg : Sections) (H : History) (held held' : Cutting) (between player : Player)
     (source source' source'' : SourceSeen) (sink sink' sink'' : SinkSeen) (piece : List ℕ) (count count' : ℕ)
@@ -140,7 +99,7 @@ input_part cfg H held held' between now source source' source'' sink sink' sink'
             (front_both AddsAnswer cfg H (lines was.bytes) next.0.more between sink sink' sink'' was.answered
             next.0.answered);
       },
-      stops_later sink sink' sink'' halted was.answered.wrote.same next.1,
+      writes_later sink sink' sink'' halted was.answered.wrote.same next.1,
     )
 
 -- a call that stopped in a piece stopped for want of memory or at a write
@@ -165,41 +124,42 @@ input_stopped cfg H held held' between now source source' source'' sink sink' si
     gave answers short in
     source_stops cfg H now source source'' sink sink'' halted part.0 part.1
 
--- what was given is no more than what was left
-left_from : (left left' : Option (List ℕ)) (bytes : List ℕ) (limit : ℕ) → Shrinks left left' bytes
-    → length bytes ≡ limit → AreLeftFrom left limit
-left_from None left' bytes limit shrinks is = tt
-left_from (Some was) None bytes limit shrinks is = absurd shrinks
-left_from (Some was) (Some now) bytes limit shrinks is =
-    omega (arith, ap (length {A = ℕ}) shrinks, length-append bytes now, is)
-
 -- the limit is reached with a piece that isn't answered
 pub input_long : (cfg : Sections) (H : History) (held : Cutting) (player : Player)
     (source source' source'' : SourceSeen) (sink sink' : SinkSeen) (piece : List ℕ) (count : ℕ)
     → InputSoFar cfg H held player source source' sink sink' count → GavePiece source' source'' piece
-    → count + length piece ≡ input_limit → length piece ≤ max_piece
+    → count + length piece ≡ input_limit → length piece ≤ read_limit
     → AnswersSource cfg H player source source'' sink sink' (Err halt.Long)
 input_long cfg H held player source source' source'' sink sink' piece count was gave is few =
     let full : length (was.bytes ++ piece) ≡ input_limit =
     omega (arith, length-append was.bytes piece, was.count_is, is) in
     let shrunk = shrinks_more source.left source'.left source''.left was.bytes piece was.left gave.left in
-    let grown = grows_more source.given source'.given source''.given was.bytes piece was.given gave.given in (
-      piece,
-      few,
-      record {
-        bytes = was.bytes;
-        read = record { given = grown; left = shrunk; short = omega (arith, full) };
-        answered = was.answered;
-      },
-      record {
-        bytes = was.bytes ++ piece;
-        given = grown;
-        full = full;
-        left = left_from source.left source''.left (was.bytes ++ piece) input_limit shrunk full;
-        unended = gave.ended ∙ was.ended;
-        same = gave.unfailed ∙ was.unfailed;
-      },
-    )
+    let grown = grows_more source.given source'.given source''.given was.bytes piece was.given gave.given in
+    record {
+      last = piece;
+      few = few;
+      so_far =
+          record {
+            bytes = was.bytes;
+            read = record { given = grown; left = shrunk; short = omega (arith, full) };
+            answered = was.answered;
+          };
+      gave =
+          record {
+            full = full;
+            left = left_from source.left source''.left (was.bytes ++ piece) input_limit shrunk full;
+            unended = gave.ended ∙ was.ended;
+            same = gave.unfailed ∙ was.unfailed;
+          };
+    }
+
+-- the limit is reached
+pub input_full : (cfg : Sections) (H : History) (held : Cutting) (player : Player) (source source' : SourceSeen)
+    (sink sink' : SinkSeen) (count : ℕ) → InputSoFar cfg H held player source source' sink sink' count
+    → count ≡ input_limit → AnswersSource cfg H player source source' sink sink' (Err halt.Long)
+input_full cfg H held player source source' sink sink' count was is =
+    input_long cfg H held player source source' source' sink sink' [] count was (none_gave source') (omega (arith, is))
+    (omega arith)
 
 -- nothing more was given
 given_still : (given given' given'' : Option (List ℕ)) (bytes : List ℕ) → Grows given given' bytes
@@ -207,33 +167,6 @@ given_still : (given given' given'' : Option (List ℕ)) (bytes : List ℕ) → 
 given_still given given' given'' bytes grows still =
     subst (λ (all : List ℕ). Grows given given'' all) (append-nil bytes)
     (grows_more given given' given'' bytes [] grows still)
-
--- the limit is reached
-pub input_full : (cfg : Sections) (H : History) (held : Cutting) (player : Player)
-    (source source' : SourceSeen) (sink sink' : SinkSeen) (count : ℕ)
-    → InputSoFar cfg H held player source source' sink sink' count → count ≡ input_limit
-    → AnswersSource cfg H player source source' sink sink' (Err halt.Long)
-input_full cfg H held player source source' sink sink' count was is =
-    let full : length was.bytes ≡ input_limit = was.count_is ∙ is in
-    let none : was.bytes ≡ was.bytes ++ [] = sym (append-nil was.bytes) in (
-      [],
-      omega arith,
-      record {
-        bytes = was.bytes;
-        read =
-            subst (λ (all : List ℕ). ReadPart source source' all) none
-            (record { given = was.given; left = was.left; short = omega (arith, full) });
-        answered = was.answered;
-      },
-      record {
-        bytes = was.bytes;
-        given = was.given;
-        full = full;
-        left = left_from source.left source'.left was.bytes input_limit was.left full;
-        unended = was.ended;
-        same = was.unfailed;
-      },
-    )
 
 -- a source failed, and gave nothing in that call
 pub input_failed : (cfg : Sections) (H : History) (held : Cutting) (player : Player)
@@ -256,22 +189,6 @@ input_failed cfg H held player source source' source'' sink sink' count was shor
       },
       subst (λ (before : ℕ). CountsOne before source''.faults) was.unfailed counts,
     )
-
--- where nothing more was left, all that was left was given
-all_left : (left left' : Option (List ℕ)) (bytes : List ℕ) → Shrinks left left' bytes → AreLeft left' []
-    → AreLeft left bytes
-all_left None left' bytes shrinks none = tt
-all_left (Some was) None bytes shrinks none = absurd shrinks
-all_left (Some was) (Some now) bytes shrinks none =
-    shrinks ∙ ap (λ (last : List ℕ). bytes ++ last) none ∙ append-nil bytes
-
--- a source has met its end, and gave nothing in that call
-pub record MetEnd (source source' : SourceSeen) : Type 0 where
-  pub given : Grows source.given source'.given []
-  pub left : source'.left ≡ source.left
-  pub none : AreLeft source.left []
-  pub ended : source'.ended ≡ true
-  pub unfailed : source'.faults ≡ source.faults
 
 pub input_ended : (cfg : Sections) (H : History) (held : Cutting) (player : Player)
     (source source' source'' : SourceSeen) (sink sink' : SinkSeen) (count : ℕ)

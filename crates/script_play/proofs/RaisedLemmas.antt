@@ -24,7 +24,7 @@ use Rattle.script_play.specs.declared.player.Player.{Player}
 use Rattle.script_play.specs.Player.{PlayerStands}
 use Rattle.script_play.specs.Encoding.{Added, AddedBy, AddsAll, FrontAdded, Started, StopsWriting, WorksOff, settings_of}
 use Rattle.script_play.proofs.AddedLemmas.{added_both, added_none, added_one, adding_both, front_both}
-use Rattle.script_play.proofs.AddedLemmas.{front_one, stops_later}
+use Rattle.script_play.proofs.AddedLemmas.{front_one, writes_later}
 
 -- the slot of this number, which comes next, has this neighbour
 pub record IsSlot (first n place : ℕ) (neighbors : List Neighbor) (neighbor : Neighbor) : Type 0 where
@@ -85,25 +85,6 @@ pub settings_all : (items neighbors : List Neighbor) (n : ℕ) (all : List Setti
 settings_all items neighbors n all same past are =
     are
     ∙ ap settings_of (take_all n neighbors (omega (arith, past, ap (length {A = Neighbor}) same)))
-
--- the helper was started, or a session brought up: neither tells settings
-pub spawned : (cfg : Sections) (player : Player) (book : Seen) (given : Spawn) → PlayerStands cfg [] player
-    → Stands cfg (SpawnAsked 0 0 given ∷ []) book
-    → PlayerStands cfg (SpawnAsked 0 0 given ∷ []) (record player { book = book })
-spawned cfg player book given was stands = record {
-  book = stands;
-  known = record { many = was.known.many; each = was.known.each };
-  room = was.room;
-}
-
-pub came_up : (cfg : Sections) (H : History) (n : ℕ) (settings : Settings) (caps : Caps) (player : Player) (book : Seen)
-    (given : Up) → PlayerStands cfg H player → Stands cfg (CameUp n settings caps given ∷ H) book
-    → PlayerStands cfg (CameUp n settings caps given ∷ H) (record player { book = book })
-came_up cfg H n settings caps player book given was stands = record {
-  book = stands;
-  known = record { many = was.known.many; each = was.known.each };
-  room = was.room;
-}
 
 -- the sessions of the first neighbours are up
 pub record RaisedSoFar (cfg : Sections) (neighbors : List Neighbor) (n : ℕ) (player : Player) : Type 0 where
@@ -218,5 +199,5 @@ slots_stopped cfg H neighbors n between player now sink mid sink' halted within 
           (front_both AddsCuts cfg H (numbered 0 (take n neighbors)) ((n, slot.0) ∷ numbered (n + 1) slot.2.behind)
           between sink mid sink' was.cuts
           (front_one AddsCuts cfg (was.cuts.added ++ H) (n, slot.0) (numbered (n + 1) slot.2.behind) mid sink' part)),
-      stops_later sink mid sink' halted was.cuts.wrote.same stops,
+      writes_later sink mid sink' halted was.cuts.wrote.same stops,
     )

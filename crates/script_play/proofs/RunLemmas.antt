@@ -27,18 +27,8 @@ use Rattle.script_play.specs.Player.{PlayerStands}
 use Rattle.script_play.specs.Writing.{Wrote}
 use Rattle.script_play.specs.Encoding.{Added, AddedPart, AddsAll, CutsOnce, EntersLine, Printed, PrintedPart, StopsWriting}
 use Rattle.script_play.specs.Encoding.{TakesOnce, WritesText, WrotePart}
-use Rattle.script_play.proofs.AddedLemmas.{all_both, part_all, run_last, run_left, run_none, run_stopped, stops_later}
+use Rattle.script_play.proofs.AddedLemmas.{all_both, part_all, run_last, run_left, run_none, run_stopped, writes_later}
 use Rattle.script_play.proofs.AddedLemmas.{wrote_none}
-
--- replies were taken, which tells no settings
-pub replies_taken : (cfg : Sections) (H : History) (player : Player) (book : Seen) (given : Take)
-    → PlayerStands cfg H player → Stands cfg (RepliesTaken 0 1 given ∷ H) book
-    → PlayerStands cfg (RepliesTaken 0 1 given ∷ H) (record player { book = book })
-replies_taken cfg H player book given was stands = record {
-  book = stands;
-  known = record { many = was.known.many; each = was.known.each };
-  room = was.room;
-}
 
 -- what a call leaves that makes an entry and writes what is printed of it
 entry_printed : (entry : Entry) (cfg : Sections) (H : History) (player : Player) (sink sink' : SinkSeen)
@@ -122,7 +112,7 @@ taken_stopped cfg H between player now sink mid sink' halted was (given, printed
     let done = taken_with given (is_full given) was.run.added refl was.run.adds in (
       run_stopped AreTaken cfg H sink mid sink' was.run.added done.0 (RepliesTaken 0 1 given) was.run.wrote done.1
           printed,
-      stops_later sink mid sink' halted was.run.wrote.same stops,
+      writes_later sink mid sink' halted was.run.wrote.same stops,
     )
 
 pub taken_endless : (cfg : Sections) (H : History) (between now : Player) (sink sink' : SinkSeen)
@@ -204,7 +194,7 @@ cut_stopped n cfg H between player now sink mid sink' halted was (bytes, given, 
     let done = drain_with n bytes given (is_message given) was.run.added refl was.run.adds in (
       run_stopped (IsDrain n) cfg H sink mid sink' was.run.added done.0 (MessageCut n bytes given) was.run.wrote done.1
           printed,
-      stops_later sink mid sink' halted was.run.wrote.same stops,
+      writes_later sink mid sink' halted was.run.wrote.same stops,
     )
 
 pub cut_endless : (n : ℕ) (cfg : Sections) (H : History) (between now : Player) (sink sink' : SinkSeen)

@@ -29,12 +29,8 @@ use Rattle.script_play.specs.declared.halt.Halt.{Halt}
 use Rattle.script_play.specs.declared.halt.Halt.TheVariants as halt
 use Rattle.script_play.specs.declared.player.Player.{Player}
 use Rattle.script_play.specs.Player.{PlayerStands}
-use Rattle.script_play.specs.Streams.{GaveLimit, ReadPart, ReadWhole, input_limit}
-use Rattle.script_play.specs.Writing.{Wrote, status_of}
-
--- how many bytes one call of a source is asked for at most
-abbrev pub max_piece : ℕ
-max_piece = 65536
+use Rattle.script_play.specs.Streams.{GaveLimit, ReadPart, ReadWhole, input_limit, read_limit}
+use Rattle.script_play.specs.Writing.{Wrote}
 
 -- why a call stopped that enters and writes, and what the sink's count of faults then shows
 abbrev pub StopsWriting : SinkSeen → SinkSeen → Halt → Type 0
@@ -191,12 +187,20 @@ pub record AnsweredWhole (cfg : Sections) (H : History) (player : Player) (sourc
   pub read : ReadWhole source source' bytes
   pub answered : Added (AddedBy AddsAnswer H (lines bytes)) cfg H player sink sink'
 
--- All lines that had ended were answered before the last of what was read came.
+-- all lines that had ended before the last of what was read came were answered
 pub record AnsweredSoFar (cfg : Sections) (last : List ℕ) (H : History) (player : Player) (source source' : SourceSeen)
     (sink sink' : SinkSeen) : Type 0 where
   pub bytes : List ℕ
   pub read : ReadPart source source' (bytes ++ last)
   pub answered : Added (AddedBy AddsAnswer H (lines bytes)) cfg H player sink sink'
+
+-- the lines before the read were answered that gave the last bytes below the limit
+pub record AnsweredToLimit (cfg : Sections) (H : History) (player : Player) (source source' : SourceSeen)
+    (sink sink' : SinkSeen) : Type 0 where
+  pub last : List ℕ
+  pub few : length last ≤ read_limit
+  pub so_far : AnsweredSoFar cfg last H player source source' sink sink'
+  pub gave : GaveLimit source source' (so_far.bytes ++ last)
 
 -- some lines of what was read were answered
 pub record AnsweredPart (cfg : Sections) (H : History) (source source' : SourceSeen) (sink sink' : SinkSeen)
@@ -215,8 +219,7 @@ AnswersSource cfg H player source source' sink sink' (Ok _) =
 AnswersSource cfg H player source source' sink sink' (Err halt.Read) =
     AnsweredSoFar cfg [] H player source source' sink sink' × CountsOne source.faults source'.faults
 AnswersSource cfg H player source source' sink sink' (Err halt.Long) =
-    (last : List ℕ) × (length last ≤ max_piece) × AnsweredSoFar cfg last H player source source' sink sink'
-    × GaveLimit source source'
+    AnsweredToLimit cfg H player source source' sink sink'
 AnswersSource cfg H player source source' sink sink' (Err halted) =
     AnsweredPart cfg H source source' sink sink' × StopsWriting sink sink' halted
 
@@ -247,6 +250,13 @@ pub record EncodedSoFar (cfg : Sections) (last : List ℕ) (source source' : Sou
   pub legal : IsLegal cfg history
   pub wrote : Wrote (all_of encoded history) sink sink'
 
+-- the lines before the read were answered that gave the last bytes below the limit
+pub record EncodedToLimit (cfg : Sections) (source source' : SourceSeen) (sink sink' : SinkSeen) : Type 0 where
+  pub last : List ℕ
+  pub few : length last ≤ read_limit
+  pub so_far : EncodedSoFar cfg last source source' sink sink'
+  pub gave : GaveLimit source source' (so_far.bytes ++ last)
+
 -- A part of an input was encoded, and a front part of its output was written. No message is cut before the input was
 -- read to its end.
 pub record EncodedPart (cfg : Sections) (source source' : SourceSeen) (sink sink' : SinkSeen) : Type 0 where
@@ -271,15 +281,9 @@ Encodes cfg source source' sink sink' status.Ok = EncodedWhole cfg source source
 Encodes cfg source source' sink sink' status.ReadFault =
     EncodedSoFar cfg [] source source' sink sink' × CountsOne source.faults source'.faults
 Encodes cfg source source' sink sink' status.InputLong =
-    (last : List ℕ) × (length last ≤ max_piece) × EncodedSoFar cfg last source source' sink sink'
-    × GaveLimit source source'
+    EncodedToLimit cfg source source' sink sink'
 Encodes cfg source source' sink sink' status.WriteFault =
     EncodedPart cfg source source' sink sink' × CountsOne sink.faults sink'.faults
 Encodes cfg source source' sink sink' status.NoMemory =
     EncodedAtMost cfg source source' sink sink' × (sink'.faults ≡ sink.faults)
 Encodes cfg source source' sink sink' other = ⊥
-
--- the status of encoding that ended so
-abbrev pub ended_as : Result (Unit {0}) Halt → Status
-ended_as (Ok _) = status.Ok
-ended_as (Err halted) = status_of halted

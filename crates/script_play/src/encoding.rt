@@ -18,7 +18,8 @@ ghost use Rattle.script_play.specs.Player.{PlayerStands};
 ghost use Rattle.script_play.specs.Encoding.{AddsAll, AnswersLine, AnswersPiece, AnswersSource};
 ghost use Rattle.script_play.specs.Encoding.{CutsOnce, Encodes, EntersLine, Raises, Spawns};
 ghost use Rattle.script_play.specs.Encoding.{Started, TakesOnce};
-ghost use Rattle.script_play.specs.Encoding.{WorksOff, WritesText, ended_as, settings_of};
+ghost use Rattle.script_play.specs.Encoding.{WorksOff, WritesText, settings_of};
+ghost use Rattle.script_play.specs.Streams.{status_by};
 
 use crate::halt::Halt;
 use crate::player::Player;
@@ -75,7 +76,7 @@ fn encode_all<S: Source, K: Sink>(
     ensures { Encodes config (source_seen S.given S.left S.ended S.faults input.old)
         (source_seen S.given S.left S.ended S.faults input.new)
         (sink_seen K.taken K.faults output.old) (sink_seen K.taken K.faults output.new)
-        (ended_as result) }
+        (status_by result) }
 {
     let settings = settings_of(alloc, &config)?;
     let mut player = Player::new(alloc, config)?;
@@ -110,7 +111,7 @@ fn encode_with<S: Source, K: Sink>(
         → Encodes cfg (source_seen S.given S.left S.ended S.faults input.old)
         (source_seen S.given S.left S.ended S.faults input.new)
         (sink_seen K.taken K.faults output.old) (sink_seen K.taken K.faults output.new)
-        (ended_as result) }
+        (status_by result) }
 {
     start(player, settings);
     answer_all(player, cutter, input, output)?;
