@@ -2,13 +2,15 @@
 ghost use Rattle.std.specs.Prelude.{◌≡◌, [], IfOk, IsTrue};
 ghost use Rattle.outside.specs.Lent.{LendsNone};
 ghost use Rattle.outside.specs.Seen.{sink_seen};
+ghost use Rattle.attr_codec.specs.Buffer.{max_message};
 ghost use Rattle.config_model.specs.Sections.{Sections};
 ghost use Rattle.book_history.specs.Entries.{History};
+ghost use Rattle.book_core.specs.Stands.{Stands};
 ghost use Rattle.script_grammar.specs.Events.{event_told};
 ghost use Rattle.script_grammar.specs.Laws.{HasSlot};
 ghost use Rattle.text_history.specs.Plays.{is_known};
 ghost use Rattle.script_play.specs.Entering.{Enters, PutsAsked};
-ghost use Rattle.script_play.specs.Player.{PlayerStands};
+ghost use Rattle.script_play.specs.Player.{AreKnown, PlayerStands};
 
 use crate::buffer::Buffer;
 use crate::halt::Halt;
@@ -43,13 +45,21 @@ impl Player {
         let hasher = fixed_state()?;
         let message = Buffer::new(alloc)?;
         let book = Book::open(alloc, config, hasher)?;
-        Ok(Player {
+        Ok(Player::of(alloc, book, message))
+    }
+
+    // A player of a book to which nothing has happened.
+    fn of(alloc: Global, book: Book, message: Buffer) -> Player
+        requires { message.room ≡ max_message }
+        ensures { (cfg : Sections) → Stands cfg [] book → PlayerStands cfg [] result }
+    {
+        Player {
             alloc,
             book,
-            known: [None; MAX_PEERS],
+            known: none_known(),
             message,
             text: Vec::new(alloc),
-        })
+        }
     }
 
     /// Whether an event can be entered: one of a session that comes up needs settings that its slot told before.
@@ -114,4 +124,11 @@ impl Player {
             Event::Drain { .. } | Event::Reload { .. } => Err(NoMemory),
         }
     }
+}
+
+// Before anything happens no slot has told its settings.
+fn none_known() -> [Option<Settings>; MAX_PEERS]
+    ensures { AreKnown [] result }
+{
+    [None; MAX_PEERS]
 }
