@@ -1,3 +1,9 @@
+pub mod AddedLemmas
+pub mod RunLemmas
+pub mod RaisedLemmas
+pub mod AnsweredLemmas
+pub mod InputLemmas
+pub mod EncodedLemmas
 pub mod KnownLemmas
 pub mod AskedLemmas
 pub mod UnreadLemmas

@@ -33,7 +33,7 @@ pub record Reached (content : Option (List ℕ → List ℕ)) (cfg : Sections) (
   pub few : number ≤ count
 
 -- what has lost nothing
-shrinks_none : (told : Option (List ℕ)) → Shrinks told told []
+pub shrinks_none : (told : Option (List ℕ)) → Shrinks told told []
 shrinks_none None = tt
 shrinks_none (Some bytes) = refl
 
@@ -222,7 +222,7 @@ reached_stopped content told cfg source source' source'' sink sink' sink'' files
 -- ---- the limit
 
 -- what was given is no more than what was left
-left_from : (left left' : Option (List ℕ)) (bytes : List ℕ) (limit : ℕ) → Shrinks left left' bytes
+pub left_from : (left left' : Option (List ℕ)) (bytes : List ℕ) (limit : ℕ) → Shrinks left left' bytes
     → length bytes ≡ limit → AreLeftFrom left limit
 left_from None left' bytes limit shrinks is = tt
 left_from (Some was) None bytes limit shrinks is = absurd shrinks
@@ -265,7 +265,7 @@ piece_limit content cfg source source' source'' sink sink' files files' player h
     )
 
 -- nothing was given
-none_gave : (source : SourceSeen) → GavePiece source source []
+pub none_gave : (source : SourceSeen) → GavePiece source source []
 none_gave source = record {
   given = grows_none source.given;
   left = shrinks_none source.left;
@@ -313,7 +313,7 @@ reached_failed content cfg source source' source'' sink sink' files files' playe
 -- ---- the end
 
 -- where nothing more was left, all that was left was given
-all_left : (left left' : Option (List ℕ)) (bytes : List ℕ) → Shrinks left left' bytes → AreLeft left' []
+pub all_left : (left left' : Option (List ℕ)) (bytes : List ℕ) → Shrinks left left' bytes → AreLeft left' []
     → AreLeft left bytes
 all_left None left' bytes shrinks none = tt
 all_left (Some was) None bytes shrinks none = absurd shrinks

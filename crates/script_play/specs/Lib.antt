@@ -5,3 +5,4 @@ pub mod Entering
 pub mod Draining
 pub mod Reloading
 pub mod Streams
+pub mod Encoding

@@ -10,6 +10,7 @@ mod buffer;
 mod config_file;
 mod daemon;
 mod draining;
+mod encoding;
 mod halt;
 mod hashing;
 mod helpers;
@@ -20,6 +21,7 @@ mod status;
 mod writing;
 
 pub use config_file::configured;
+pub use encoding::encode;
 pub use playing::play;
 pub use status::{STATUS_ROOM, Status};
 

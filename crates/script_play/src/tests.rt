@@ -1,4 +1,4 @@
-//! Scripts, played from memory to memory.
+//! Scripts and lines, from memory to memory.
 use crate::{Status, play};
 use config_model::{Config, MAX_HELPERS, MAX_PEERS, Slots};
 use config_reader::{ConfigError, read_config};
@@ -6,6 +6,7 @@ use outside::{HeldFile, MemoryFiles, MemorySink, MemorySource};
 use std::alloc::Global;
 use std::test::Fail;
 
+mod encoding;
 mod playing;
 mod reloads;
 mod stopping;
