@@ -2,7 +2,7 @@
 use Rattle.std.proofs.Common.{◌≡◌, ℕ, ◌+◌, ◌<◌, Bool, true, false, cond, List, [], ◌∷◌, ◌++◌, length, Some, None, Ok}
 use Rattle.std.proofs.Common.{Err}
 use Rattle.std.proofs.Common.{refl, sym, ap, ◌∙◌, subst, arith, append_assoc, append-nil, get_or, take}
-use Rattle.std.specs.Prelude.{◌&&◌, ◌||◌, count_by, filter, map, is_some, unwrap_or, if◌then◌else◌, Option, Result}
+use Rattle.std.specs.Prelude.{◌&&◌, ◌||◌, count_by, map, is_some, unwrap_or, if◌then◌else◌, Option, Result}
 use Rattle.std.specs.Prelude.{IfOk, OnOk}
 use Rattle.std.specs.List.{flat_map, sum_by, IsDistinct}
 use Rattle.std.specs.Set.{is_member}
@@ -19,7 +19,6 @@ use Rattle.update_grammar.specs.declared.effect.Effect.TheVariants.{Gone, Here}
 use Rattle.update_grammar.specs.Net.{effect_says, last_word, later_of, net}
 use Rattle.update_grammar.specs.Packed.{named_by}
 use Rattle.update_grammar.specs.Update.{gone_all, here_all}
-use Rattle.update_grammar.proofs.NetLemmas.{last_word-push}
 use Rattle.update_codec.specs.declared.effects.Announced.{Announced}
 use Rattle.update_codec.specs.Effects.{announced_effects}
 use Rattle.peer_history.specs.Messages.{said}
@@ -29,7 +28,7 @@ use Rattle.book_history.specs.Entries.Entry.{MessageCut}
 use Rattle.script_play.specs.declared.counting.Tally.{Tally}
 use Rattle.script_play.specs.Counting.{TakesEffects, TookEffects, counts_told}
 use Rattle.script_play.specs.Loads.{counts_of, effects_in, is_gone, is_here, keys_left, load_caps}
-use Rattle.script_play.specs.Loads.{counts_text, messages_in, routes_left, Counts}
+use Rattle.script_play.specs.Loads.{counts_text, messages_in, routes_left}
 use Rattle.script_play.specs.Loading.{Tallies}
 use Rattle.script_play.specs.Standing.{AreLeftAt}
 use Rattle.script_play.proofs.StandingLemmas.{same_laws, same_sym}
@@ -227,7 +226,7 @@ took_here announced was now (Err because) lines done errors messages bytes more 
 
 -- ---- messages
 
-said_more : (H : History) (bytes : List ℕ) → flat_map (said load_caps) (messages_in H ++ bytes ∷ [])
+pub said_more : (H : History) (bytes : List ℕ) → flat_map (said load_caps) (messages_in H ++ bytes ∷ [])
     ≡ effects_in H ++ said load_caps bytes
 said_more H bytes =
     flat_map-append (said load_caps) (messages_in H) (bytes ∷ [])

@@ -1,3 +1,4 @@
 pub mod StandingLemmas
 pub mod CountingLemmas
 pub mod LoadingLemmas
+pub mod LoadLawLemmas

@@ -1,7 +1,7 @@
 -- What a load enters, and the first of it.
 use Rattle.std.proofs.Common.{◌≡◌, ℕ, ◌+◌, ◌-◌, ◌*◌, ◌<◌, ◌≤◌, zero, suc, Bool, true, false, List, [], ◌∷◌, ◌++◌}
-use Rattle.std.proofs.Common.{length, Ok, Err}
-use Rattle.std.proofs.Common.{refl, sym, ap, ◌∙◌, subst, arith, append_assoc, append-nil}
+use Rattle.std.proofs.Common.{Ok, Err}
+use Rattle.std.proofs.Common.{refl, sym, ap, ◌∙◌, subst, arith, append_assoc}
 use Rattle.std.specs.Prelude.{Result, IfOk, IsErr, MatchResult, OnOk, if◌then◌else◌}
 use Rattle.std.specs.List.{AllByRecursion}
 use Rattle.text_forms.specs.Lines.{Line, Text}
@@ -33,7 +33,7 @@ use Rattle.text_history.proofs.AddingLemmas.{adding_more}
 use Rattle.script_play.specs.declared.counting.Tally.{Tally}
 use Rattle.script_play.specs.declared.status.Status.{Status}
 use Rattle.script_play.specs.declared.status.Status.TheVariants as status
-use Rattle.script_play.specs.Loads.{AddsAnnounce, AddsReplied, AddsWithdraw, AreCut, IsEntered, announce_line, begun}
+use Rattle.script_play.specs.Loads.{AddsAnnounce, AddsReplied, AddsWithdraw, AreCut, IsEntered, begun}
 use Rattle.script_play.specs.Loads.{counts_of, counts_text, evens_below, withdraw_line}
 use Rattle.script_play.specs.Loading.{Began, Begins, Cuts, Enters, Entered, IsCounted, IsCut, IsCutAlone, IsReplied}
 use Rattle.script_play.specs.Loading.{IsTold, LoadBegan, Loads, Tallies, Tells}

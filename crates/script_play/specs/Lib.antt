@@ -7,3 +7,4 @@ pub mod Standing
 pub mod Loads
 pub mod Loading
 pub mod Counting
+pub mod LoadLaws

@@ -1,5 +1,5 @@
 -- What loading leaves: how far it came, what it counted, and what it wrote.
-use Rattle.std.specs.Prelude.{ℕ, ◌≡◌, Bool, List, [], ◌∷◌, ◌++◌, length, count_by, Result, Ok, Err}
+use Rattle.std.specs.Prelude.{ℕ, ◌≡◌, Bool, List, ◌∷◌, ◌++◌, length, count_by, Result, Ok, Err}
 use Rattle.std.specs.List.{sum_by}
 use Rattle.outside.specs.Seen.{SinkSeen}
 use Rattle.outside.specs.Told.{CountsOne, Grows}

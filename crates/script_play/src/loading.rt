@@ -30,7 +30,7 @@ use std::alloc::Global;
 use text_forms::{Line, put_ipv4};
 
 /// How many routes a load has at most.
-pub const MAX_ROUTES: u32 = 1_000_000;
+pub const MAX_LOAD: u32 = 1_000_000;
 
 // The neighbour's settings: 127.0.0.1 from 192.0.2.9, of AS 65002 from AS 65001, in IPv4 alone.
 const SETTINGS: Settings = Settings {

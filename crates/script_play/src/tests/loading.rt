@@ -1,6 +1,6 @@
 //! Large inputs, counted.
 use crate::hashing::fixed_state;
-use crate::loading::{MAX_ROUTES, load};
+use crate::loading::{MAX_LOAD, load};
 use crate::status::Status;
 use book_core::Book;
 use config_model::{MAX_HELPERS, MAX_PEERS, Slots};
@@ -52,7 +52,7 @@ fn opened(alloc: Global) -> Result<Book, Fail> {
 fn loaded(alloc: Global, count: u32, failing: &[u64]) -> Result<(Status, String), Fail> {
     let mut book = opened(alloc)?;
     let mut sink = MemorySink::in_steps(alloc, ROOM, 8, failing)?;
-    let status = load(alloc, &mut book, count.min(MAX_ROUTES), &mut sink);
+    let status = load(alloc, &mut book, count.min(MAX_LOAD), &mut sink);
     let bytes = sink.bytes().ok_or("the sink has room")?;
     let output = String::from_utf8(Vec::from_slice(alloc, bytes)?)?;
     Ok((status, output))

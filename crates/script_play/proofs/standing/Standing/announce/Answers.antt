@@ -1,7 +1,6 @@
 use Rattle.std.proofs.Common.{◌<◌, ◌≤◌, ◌++◌, true, List, length, refl, subst, arith}
 use Rattle.std.proofs.lemmas.Grind.{common_steps}
 use Rattle.route_values.specs.declared.key.Key.{Key}
-use Rattle.update_grammar.specs.declared.effect.Effect.{Effect}
 use Rattle.update_grammar.specs.declared.effect.Effect.TheVariants.{Here}
 use Rattle.update_grammar.specs.Update.{here_all}
 use Rattle.script_play.specs.Standing.{AreLeftAt}
