@@ -15,3 +15,7 @@ pub mod PlayedLemmas
 pub mod LineLemmas
 pub mod PieceLemmas
 pub mod StreamLemmas
+pub mod StandingLemmas
+pub mod CountingLemmas
+pub mod LoadingLemmas
+pub mod LoadLawLemmas

@@ -6,3 +6,8 @@ pub mod Draining
 pub mod Reloading
 pub mod Streams
 pub mod Encoding
+pub mod Standing
+pub mod Loads
+pub mod Loading
+pub mod Counting
+pub mod LoadLaws

@@ -7,6 +7,7 @@ use std::alloc::Global;
 use std::test::Fail;
 
 mod encoding;
+mod loading;
 mod playing;
 mod reloads;
 mod stopping;
