@@ -20,7 +20,7 @@ use Rattle.exa_top.specs.Top.{ReadsPart, ReadsInput, IsConfigured, Broke, GaveFr
 use Rattle.exa_top.proofs.OutputLemmas.{some_encoding, some_parsing, parted}
 
 -- what isn't touched has grown by nothing
-grows_none : (told : Option (List ℕ)) → Grows told told []
+pub grows_none : (told : Option (List ℕ)) → Grows told told []
 grows_none None = tt
 grows_none (Some bytes) = sym (append-nil bytes)
 

@@ -1,6 +1,6 @@
 -- What `play` shows of its devices, by how it ended.
 use Rattle.std.proofs.Common.{ℕ, ◌≡◌, ◌⊎◌, List, [], ◌∷◌, ◌++◌, length, Option, Some, None, refl, sym, ◌∙◌, ap, subst}
-use Rattle.std.proofs.Common.{inl, inr, arith, append-nil, length-append, codes}
+use Rattle.std.proofs.Common.{inl, inr, arith, append-nil, length-append, codes, get_or, map, ◌+◌}
 use Rattle.std.specs.Borrow.{Bor}
 use Rattle.outside.specs.Seen.{SourceSeen, SinkSeen}
 use Rattle.outside.specs.Told.{AreLeft, CountsOne, Grows, Shrinks}
@@ -15,14 +15,18 @@ use Rattle.text_history.specs.Plays.{IsPlayPart, IsRefusedAt}
 use Rattle.script_grammar.specs.Scripts.{script_lines}
 use Rattle.script_play.specs.declared.status.Status.{Status}
 use Rattle.script_play.specs.declared.status.Status.TheVariants as status
+use Rattle.script_play.specs.Status.{IsUnread}
 use Rattle.script_play.specs.Streams.{ArePlayed, PlayedAtMost, PlayedPart, PlayedSoFar, PlayedToLine, PlayedWhole}
 use Rattle.script_play.specs.Streams.{Plays, StayRefused}
 use Rattle.script_play.specs.Streams.{ReadPart as GavePart}
-use Rattle.script_play.specs.Streams.PlayedAtMost.{part, unopened}
+use Rattle.script_play.specs.Streams.{part as in_part, unopened}
 use Rattle.script_play.proofs.ScriptLemmas.{lines_front}
-use Rattle.exa_top.specs.declared.words.TextCommand.TheVariants.{Play}
-use Rattle.exa_top.specs.Played.{IsBadScript, IsLeftRefused, IsPlayedOver, IsShown, IsUnplayed, PlaysFile}
-use Rattle.exa_top.specs.Top.{input_limit, Answered, Broke, IsConfigured, ReadPart, Ran}
+use Rattle.exa_top.specs.declared.words.TextCommand.{TextCommand}
+use Rattle.exa_top.specs.declared.words.TextCommand.TheVariants.{Encode, Check, Play, Parse, Decode, Help, Version}
+use Rattle.exa_top.specs.Words.{IsCommand}
+use Rattle.exa_top.specs.Played.{CountsUnread, IsBadScript, IsLeftRefused, IsPlayedOver, IsShown, IsUnplayed}
+use Rattle.exa_top.specs.Played.{PlaysFile}
+use Rattle.exa_top.specs.Top.{input_limit, Answered, Broke, HasBadLine, PlaysIts, PlaysScript, ReadPart, Ran}
 use Rattle.exa_top.proofs.AnsweredLemmas.{few_given, grows_none, nothing_written}
 use Rattle.exa_top.proofs.CheckedLemmas.{unread_stopped}
 
@@ -198,7 +202,7 @@ most_answered : (content : Option (List ℕ → List ℕ)) (path : Bor (List ℕ
     (sink sink' : SinkSeen) (slots : Slots) (config : Sections) → AreTextSlots slots
     → IsConfigAt content path.now slots config → PlayedAtMost content config source source' sink sink'
     → sink'.faults ≡ sink.faults → Answered content (Play path) source source' sink sink' status.NoMemory
-most_answered content path source source' sink sink' slots config are at (part is) same = record {
+most_answered content path source source' sink sink' slots config are at (in_part is) same = record {
   spelled = λ ends. absurd (cc);
   crew = λ ends. absurd (cc);
   ok = λ ends. absurd (cc);
@@ -359,3 +363,99 @@ played_answered content path source source' sink sink' files files' ends (inl is
 played_answered content path source source' sink sink' files files' ends (inr is) =
     over_answered content path source source' sink sink' files files' is.slots is.config ends is.slots_are is.configured
     is.plays
+
+-- the count of files' faults behind a file that gave no configuration
+counts_unread : (files files' : ℕ) (ends : Status) → (ends ≡ status.ConfigRead → CountsOne files files')
+    → (¬ (ends ≡ status.ConfigRead) → files' ≡ files) → CountsUnread files files' ends
+counts_unread files files' status.ConfigRead counts same = counts refl
+counts_unread files files' status.Ok counts same = same (λ is. absurd (cc))
+counts_unread files files' status.Usage counts same = same (λ is. absurd (cc))
+counts_unread files files' (status.ConfigRefused fault) counts same = same (λ is. absurd (cc))
+counts_unread files files' (status.ScriptRefused line) counts same = same (λ is. absurd (cc))
+counts_unread files files' status.ReadFault counts same = same (λ is. absurd (cc))
+counts_unread files files' status.WriteFault counts same = same (λ is. absurd (cc))
+counts_unread files files' status.NoCrew counts same = same (λ is. absurd (cc))
+counts_unread files files' status.NoMemory counts same = same (λ is. absurd (cc))
+counts_unread files files' status.InputLong counts same = same (λ is. absurd (cc))
+
+-- a file that gave no configuration, by the status
+pub unplayed : (content : Option (List ℕ → List ℕ)) (path : List ℕ) (source : SourceSeen) (sink : SinkSeen)
+    (files files' : ℕ) (slots : Slots) (ends : Status) → AreTextSlots slots → IsUnread content path slots ends
+    → (ends ≡ status.ConfigRead → CountsOne files files') → (¬ (ends ≡ status.ConfigRead) → files' ≡ files)
+    → PlaysFile content path source source sink sink files files' ends
+unplayed content path source sink files files' slots ends are unread counts same = inl (record {
+  slots = slots;
+  slots_are = are;
+  unread = unread;
+  source_same = refl;
+  sink_same = refl;
+  counts = counts_unread files files' ends counts same;
+})
+
+-- a script that was played over the configuration of a file
+pub played_over : (content content' : Option (List ℕ → List ℕ)) (path : List ℕ) (source source' : SourceSeen)
+    (sink sink' : SinkSeen) (files between files' : ℕ) (slots : Slots) (config : Sections) (ends : Status)
+    → AreTextSlots slots → IsConfigAt content path slots config → content' ≡ content → between ≡ files
+    → Plays content' config source source' sink sink' between files' ends
+    → PlaysFile content path source source' sink sink' files files' ends
+played_over content content' path source source' sink sink' files between files' slots config ends are at content_is
+    files_are plays = inr (record {
+  slots = slots;
+  slots_are = are;
+  config = config;
+  configured = at;
+  plays = subst (λ (now : Option (List ℕ → List ℕ)). Plays now config source source' sink sink' files files' ends)
+      content_is
+      (subst (λ (now : ℕ). Plays content' config source source' sink sink' now files' ends) files_are plays);
+})
+
+-- words that are the same begin with the same letter
+same_letter : (words others : List (List ℕ)) → words ≡ others
+    → get_or (get_or words 0 []) 0 0 ≡ get_or (get_or others 0 []) 0 0
+same_letter words others same = ap (λ all. get_or (get_or all 0 []) 0 0) same
+
+same_path : (one other : List ℕ) → codes "play" ∷ one ∷ [] ≡ codes "play" ∷ other ∷ [] → one ≡ other
+same_path one other same = cc
+
+-- the command that is spelled plays what the words name
+pub plays_named : (content : Option (List ℕ → List ℕ)) (words : List (List ℕ)) (command : TextCommand)
+    (path : List ℕ) (source source' : SourceSeen) (sink sink' : SinkSeen) (files files' : ℕ) (ends : Status)
+    → IsCommand words command → words ≡ codes "play" ∷ path ∷ []
+    → PlaysIts content command source source' sink sink' files files' ends
+    → PlaysFile content path source source' sink sink' files files' ends
+plays_named content words (Encode side) path source source' sink sink' files files' ends is named plays =
+    let letter : 101 ≡ 112 = same_letter _ _ (sym is.words_are ∙ named) in absurd (omega (arith, letter))
+plays_named content words (Check p) path source source' sink sink' files files' ends is named plays =
+    let letter : 99 ≡ 112 = same_letter _ _ (sym is ∙ named) in absurd (omega (arith, letter))
+plays_named content words (Play p) path source source' sink sink' files files' ends is named plays =
+    subst (λ (at : List ℕ). PlaysFile content at source source' sink sink' files files' ends)
+    (same_path p.now path (sym is ∙ named)) plays
+plays_named content words Parse path source source' sink sink' files files' ends is named plays =
+    let longer : 1 ≡ 2 = ap length (sym is ∙ named) in absurd (omega (arith, longer))
+plays_named content words (Decode caps) path source source' sink sink' files files' ends is named plays =
+    let letter : 100 ≡ 112 = same_letter _ _ (sym is.1 ∙ named) in absurd (omega (arith, letter))
+plays_named content words Help path source source' sink sink' files files' ends is named plays =
+    let longer : 1 ≡ 2 = ap length (sym is ∙ named) in absurd (omega (arith, longer))
+plays_named content words Version path source source' sink sink' files files' ends is named plays =
+    let longer : 1 ≡ 2 = ap length (sym is ∙ named) in absurd (omega (arith, longer))
+
+-- a script that is refused was played
+pub refused_plays : (content : Option (List ℕ → List ℕ)) (command : TextCommand) (left : Option (List ℕ))
+    → HasBadLine content command left → PlaysScript command
+refused_plays content (Encode side) left bad = bad
+refused_plays content (Check p) left bad = bad
+refused_plays content (Play p) left bad = tt
+refused_plays content Parse left bad = bad
+refused_plays content (Decode caps) left bad = bad
+refused_plays content Help left bad = bad
+refused_plays content Version left bad = bad
+
+-- words that spell the playing of a script spell a command
+pub play_spelled : (words : List (Bor (List ℕ))) (path : List ℕ)
+    → map (λ w. w.now) words ≡ codes "play" ∷ path ∷ []
+    → (command : TextCommand) × IsCommand (map (λ w. w.now) words) command
+play_spelled [] path named = let longer : 0 ≡ 2 = ap length named in absurd (omega (arith, longer))
+play_spelled (name ∷ []) path named = let longer : 1 ≡ 2 = ap length named in absurd (omega (arith, longer))
+play_spelled (name ∷ operand ∷ []) path named = (Play operand, cc)
+play_spelled (name ∷ operand ∷ other ∷ more) path named =
+    let longer : length (map (λ w. w.now) more) + 3 ≡ 2 = ap length named in absurd (omega (arith, longer))
