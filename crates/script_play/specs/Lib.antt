@@ -2,4 +2,6 @@ pub mod Status
 pub mod Writing
 pub mod Player
 pub mod Entering
+pub mod Draining
+pub mod Reloading
 pub mod Streams

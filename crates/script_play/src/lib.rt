@@ -6,7 +6,8 @@
 //! child, and opens no session.
 #![tactic(auto)]
 
-mod configured;
+mod buffer;
+mod config_file;
 mod daemon;
 mod draining;
 mod halt;
@@ -18,6 +19,9 @@ mod playing;
 mod status;
 mod writing;
 
-pub use configured::configured;
+pub use config_file::configured;
 pub use playing::play;
 pub use status::{STATUS_ROOM, Status};
+
+#[cfg(test)]
+mod tests;

@@ -37,7 +37,7 @@ pub fn configured<F: Files>(
 {
     let bytes = match read_file(alloc, files, path, MAX_CONFIG) {
         Ok(bytes) => bytes,
-        Err(unread) => return Err(status_of(unread)),
+        Err(unread) => return Err(status_unread(unread)),
     };
     match read_config(alloc, &bytes, slots) {
         Ok(config) => Ok(config),
@@ -46,8 +46,8 @@ pub fn configured<F: Files>(
     }
 }
 
-/// How a command ends whose file wasn't read whole.
-pub fn status_of(unread: Unread) -> Status
+// How a command ends whose file wasn't read whole.
+fn status_unread(unread: Unread) -> Status
     ensures { result ≡ status_unread unread }
 {
     match unread {

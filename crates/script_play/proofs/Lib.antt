@@ -1,0 +1,11 @@
+pub mod KnownLemmas
+pub mod AskedLemmas
+pub mod UnreadLemmas
+pub mod DrainLemmas
+pub mod ReloadLemmas
+pub mod LentLemmas
+pub mod ScriptLemmas
+pub mod PlayedLemmas
+pub mod LineLemmas
+pub mod PieceLemmas
+pub mod StreamLemmas
