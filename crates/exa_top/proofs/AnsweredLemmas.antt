@@ -230,7 +230,8 @@ nothing_written content command source source' sink input early late part outcom
 -- a command whose input was left before its end
 pub stopped : (content : Option (List ℕ → List ℕ)) (command : TextCommand) (source source' : SourceSeen)
     (sink : SinkSeen) (input early late : List ℕ) (ends : Status) → ReadsInput command
-    → IsConfigured content command → ReadsPart command source source' input → IsPartOutput content command input early late → IsLeft source source' ends
+    → IsConfigured content command → ReadsPart command source source' input
+    → IsPartOutput content command input early late → IsLeft source source' ends
     → Answered content command source source' sink sink ends
 stopped content command source source' sink input early late status.NoMemory reads good part outcome same = record {
   spelled = λ is. absurd (cc);
@@ -285,11 +286,13 @@ stopped content command source source' sink input early late status.InputLong re
 }
 stopped content command source source' sink input early late status.Ok reads good part outcome left = absurd left
 stopped content command source source' sink input early late status.Usage reads good part outcome left = absurd left
-stopped content command source source' sink input early late status.WriteFault reads good part outcome left = absurd left
+stopped content command source source' sink input early late status.WriteFault reads good part outcome left =
+    absurd left
 stopped content command source source' sink input early late (status.ScriptRefused line) reads good part outcome left =
     absurd left
 stopped content command source source' sink input early late status.NoCrew reads good part outcome left = absurd left
-stopped content command source source' sink input early late status.ConfigRead reads good part outcome left = absurd left
+stopped content command source source' sink input early late status.ConfigRead reads good part outcome left =
+    absurd left
 stopped content command source source' sink input early late (status.ConfigRefused fault) reads good part outcome left =
     absurd left
 

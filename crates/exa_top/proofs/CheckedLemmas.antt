@@ -78,8 +78,8 @@ unread_stopped content command source sink late path slots status.NoMemory names
 unread_stopped content command source sink late path slots status.Ok names part outcome refuses unread = absurd unread
 unread_stopped content command source sink late path slots status.Usage names part outcome refuses unread =
     absurd unread
-unread_stopped content command source sink late path slots (status.ScriptRefused line) names part outcome refuses unread =
-    absurd unread
+unread_stopped content command source sink late path slots (status.ScriptRefused line) names part outcome refuses
+    unread = absurd unread
 unread_stopped content command source sink late path slots status.NoCrew names part outcome refuses unread =
     absurd unread
 unread_stopped content command source sink late path slots status.ReadFault names part outcome refuses unread =

@@ -148,15 +148,16 @@ pub completed : FilesDoOne → (content : Option (List ℕ → List ℕ)) (comma
     → (ReadsInput command → IsLeftShort input_limit source.left)
     → ¬ (ends ≡ status.ConfigRead) → ¬ Rose source.faults source'.faults → ¬ Rose sink.faults sink'.faults
     → (ends ≡ status.Ok) ⊎ (ends ≡ status.NoMemory)
-completed law content command source source' sink sink' status.Ok answered good script short config read write = inl refl
+completed law content command source source' sink sink' status.Ok answered good script short config read write =
+    inl refl
 completed law content command source source' sink sink' status.NoMemory answered good script short config read write =
     inr refl
 completed law content command source source' sink sink' status.Usage answered good script short config read write =
     absurd (answered.spelled refl)
 completed law content command source source' sink sink' status.ConfigRead answered good script short config read write =
     absurd (config refl)
-completed law content command source source' sink sink' (status.ConfigRefused fault) answered good script short config read
-    write =
+completed law content command source source' sink sink' (status.ConfigRefused fault) answered good script short config
+    read write =
     absurd (not_refused law content command fault (answered.refused fault refl) good)
 completed law content command source source' sink sink' status.ReadFault answered good script short config read write =
     absurd (read (counts_rose source.faults source'.faults (answered.read refl)))

@@ -78,28 +78,28 @@ broke_over : (content : Option (List ℕ → List ℕ)) (path : Bor (List ℕ)) 
     → Broke content (Play path) source source' sink sink'
 broke_over content path source source' sink sink' slots config bytes history part rest are at read events legal text_is
     taken = record {
-  input = bytes;
-  early = all_of shown history;
-  late = [];
-  part = part;
-  read = read_part source source' bytes read;
-  outcome = (
-    inr (record {
-      slots = slots;
-      slots_are = are;
-      config = config;
-      configured = at;
-      history = history;
-      events = events;
-      legal = legal;
-      output_is = refl;
-    }),
-    refl,
-  );
-  front = (rest, append-nil (all_of shown history) ∙ text_is);
-  written = taken;
-  past = λ longer. absurd (omega (arith, longer, ap length text_is, length-append part rest));
-}
+      input = bytes;
+      early = all_of shown history;
+      late = [];
+      part = part;
+      read = read_part source source' bytes read;
+      outcome = (
+        inr (record {
+          slots = slots;
+          slots_are = are;
+          config = config;
+          configured = at;
+          history = history;
+          events = events;
+          legal = legal;
+          output_is = refl;
+        }),
+        refl,
+      );
+      front = (rest, append-nil (all_of shown history) ∙ text_is);
+      written = taken;
+      past = λ longer. absurd (omega (arith, longer, ap length text_is, length-append part rest));
+    }
 
 -- the same where all of the output was written
 broke_behind : (content : Option (List ℕ → List ℕ)) (path : Bor (List ℕ)) (source source' : SourceSeen)
@@ -248,7 +248,8 @@ over_answered content path source source' sink sink' files files' slots config s
   over = λ from. absurd (few_given input_limit source.given source'.given plays.0.bytes plays.0.read.given
       plays.0.read.short from);
 }
-over_answered content path source source' sink sink' files files' slots config (status.ScriptRefused line) are at plays =
+over_answered content path source source' sink sink' files files' slots config (status.ScriptRefused line) are at
+    plays =
     record {
       spelled = λ is. absurd (cc);
       crew = λ is. absurd (cc);
@@ -346,8 +347,8 @@ over_answered content path source source' sink sink' files files' slots config s
 over_answered content path source source' sink sink' files files' slots config status.NoMemory are at plays =
     most_answered content path source source' sink sink' slots config are at plays.0 plays.1
 over_answered content path source source' sink sink' files files' slots config status.Usage are at plays = absurd plays
-over_answered content path source source' sink sink' files files' slots config (status.ConfigRefused fault) are at plays =
-    absurd plays
+over_answered content path source source' sink sink' files files' slots config (status.ConfigRefused fault) are at
+    plays = absurd plays
 over_answered content path source source' sink sink' files files' slots config status.NoCrew are at plays = absurd plays
 
 -- what `play` shows, by how it ended
@@ -400,14 +401,14 @@ pub played_over : (content content' : Option (List ℕ → List ℕ)) (path : Li
     → PlaysFile content path source source' sink sink' files files' ends
 played_over content content' path source source' sink sink' files between files' slots config ends are at content_is
     files_are plays = inr (record {
-  slots = slots;
-  slots_are = are;
-  config = config;
-  configured = at;
-  plays = subst (λ (now : Option (List ℕ → List ℕ)). Plays now config source source' sink sink' files files' ends)
-      content_is
-      (subst (λ (now : ℕ). Plays content' config source source' sink sink' now files' ends) files_are plays);
-})
+      slots = slots;
+      slots_are = are;
+      config = config;
+      configured = at;
+      plays = subst (λ (now : Option (List ℕ → List ℕ)). Plays now config source source' sink sink' files files' ends)
+          content_is
+          (subst (λ (now : ℕ). Plays content' config source source' sink sink' now files' ends) files_are plays);
+    })
 
 -- words that are the same begin with the same letter
 same_letter : (words others : List (List ℕ)) → words ≡ others

@@ -54,8 +54,8 @@ help_text =
     ++ codes "       exabgpd --version\n" ++ codes "           writes the name and the version\n"
 
 -- The output that belongs to a command and what it read: what may be written while that is read, and what only after
--- its end. Replies to lines come early, and the messages late, and so does the line of `check`. What `decode` and `play`
--- write comes as early as the lines that it belongs to.
+-- its end. Replies to lines come early, and the messages late, and so does the line of `check`. What `decode` and
+-- `play` write comes as early as the lines that it belongs to.
 abbrev pub IsOutput : Option (List ℕ → List ℕ) → TextCommand → List ℕ → List ℕ → List ℕ → Type 0
 IsOutput content (Encode side) input early late =
     (whole : IsEncoding side input (early ++ late)) × (early ≡ flat_map reply_text whole.entries)

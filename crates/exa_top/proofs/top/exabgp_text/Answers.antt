@@ -20,9 +20,11 @@ returns-in-Some-clause-plays g c path named =
     plays_named _ _ c.in-Some.command path _ _ _ _ _ _ c.run.result c.in-Some.ensures.found named c.run.ensures.plays
 
 pub returns-in-Some-clause-script : goal.returns-in-Some-clause-script
-returns-in-Some-clause-script g c line is =
-    (c.in-Some.command, c.in-Some.ensures.found,
-    refused_plays _ c.in-Some.command _ (c.run.ensures.answered.bad line is))
+returns-in-Some-clause-script g c line is = (
+  c.in-Some.command,
+  c.in-Some.ensures.found,
+  refused_plays _ c.in-Some.command _ (c.run.ensures.answered.bad line is),
+)
 
 pub returns-in-None-clause-plays : goal.returns-in-None-clause-plays
 returns-in-None-clause-plays g c path named =
