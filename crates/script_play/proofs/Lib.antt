@@ -19,3 +19,4 @@ pub mod StandingLemmas
 pub mod CountingLemmas
 pub mod LoadingLemmas
 pub mod LoadLawLemmas
+pub mod EnterLemmas
