@@ -1,9 +1,9 @@
 -- Entries that are added one behind the other, and what is printed of them.
-use Rattle.std.proofs.Common.{ℕ, ◌≡◌, List, [], ◌∷◌, ◌++◌, Option, Some, None, Result, Ok, Err, ap, sym, refl, subst, ◌∙◌}
+use Rattle.std.proofs.Common.{ℕ, ◌≡◌, List, [], ◌∷◌, ◌++◌, ap, sym, refl, subst, ◌∙◌}
 use Rattle.std.proofs.Common.{append_assoc, append-nil}
 use Rattle.std.specs.List.{AllByRecursion}
 use Rattle.outside.specs.Seen.{SinkSeen}
-use Rattle.outside.specs.Told.{CountsOne, Grows}
+use Rattle.outside.specs.Told.{CountsOne}
 use Rattle.outside.proofs.ToldLemmas.{grows_more}
 use Rattle.config_model.specs.Sections.{Sections}
 use Rattle.book_history.specs.Entries.{Entry, History}
@@ -14,7 +14,7 @@ use Rattle.script_play.specs.declared.halt.Halt.{Halt}
 use Rattle.script_play.specs.declared.halt.Halt.TheVariants as halt
 use Rattle.script_play.specs.declared.player.Player.{Player}
 use Rattle.script_play.specs.Player.{PlayerStands}
-use Rattle.script_play.specs.Writing.{Writes, Wrote}
+use Rattle.script_play.specs.Writing.{Wrote}
 use Rattle.script_play.specs.Encoding.{Added, AddedBy, AddedPart, FrontAdded, Printed, PrintedPart, StopsWriting}
 use Rattle.script_play.specs.Encoding.{WrotePart}
 use Rattle.script_play.proofs.PlayedLemmas.{grows_none}

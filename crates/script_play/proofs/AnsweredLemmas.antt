@@ -9,12 +9,9 @@ use Rattle.line_cutter.specs.Chunking.{HasCut}
 use Rattle.line_cutter.specs.Cutting.{Cutting, advanced, count_of, fed, fresh, standing}
 use Rattle.line_cutter.proofs.ChunkingLemmas.{cut_passes, cut_takes}
 use Rattle.line_cutter.proofs.UnfinishedLemmas.{lines_stay}
-use Rattle.config_model.specs.Sections.{Sections}
-use Rattle.book_history.specs.Entries.{History}
 use Rattle.text_history.specs.Encodes.{AddsAnswer}
 use Rattle.script_play.specs.declared.halt.Halt.{Halt}
 use Rattle.script_play.specs.declared.player.Player.{Player}
-use Rattle.script_play.specs.Player.{PlayerStands}
 use Rattle.script_play.specs.Encoding.{AnswersLine, AnswersPiece}
 use Rattle.script_play.proofs.AddedLemmas.{added_both, added_none, added_one, front_both, front_one, writes_later}
 

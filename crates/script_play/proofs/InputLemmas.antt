@@ -1,10 +1,8 @@
 -- An input that is read piece by piece and answered as it comes.
-use Rattle.std.proofs.Common.{ℕ, ◌≡◌, ◌⊎◌, ◌+◌, ◌-◌, ◌<◌, ◌≤◌, List, [], ◌++◌, length, Option, Some, None, Ok, Err}
-use Rattle.std.proofs.Common.{ap, sym, ◌∙◌, refl, subst, arith, append-nil, true, min, take, drop, length-append}
-use Rattle.std.proofs.Common.{length-drop, length-take}
-use Rattle.std.proofs.lemmas.List.{take-append-le}
+use Rattle.std.proofs.Common.{ℕ, ◌≡◌, ◌+◌, ◌<◌, ◌≤◌, List, [], ◌++◌, length, Option, None, Ok, Err}
+use Rattle.std.proofs.Common.{sym, ◌∙◌, refl, subst, arith, append-nil, length-append}
 use Rattle.outside.specs.Seen.{SourceSeen, SinkSeen}
-use Rattle.outside.specs.Told.{AreLeft, AreLeftFrom, CountsOne, Grows, Shrinks}
+use Rattle.outside.specs.Told.{CountsOne, Grows, Shrinks}
 use Rattle.outside.proofs.ToldLemmas.{grows_more, shrinks_more}
 use Rattle.text_forms.specs.Lines.{Line, lines}
 use Rattle.line_cutter.specs.Chunking.{HasCut}
@@ -18,7 +16,7 @@ use Rattle.script_play.specs.declared.halt.Halt.TheVariants as halt
 use Rattle.script_play.specs.declared.player.Player.{Player}
 use Rattle.script_play.specs.Player.{PlayerStands}
 use Rattle.script_play.specs.Streams.{ReadPart, input_limit, read_limit}
-use Rattle.script_play.specs.Encoding.{Added, AddedBy, AnsweredPart, AnsweredSoFar, AnsweredWhole, AnswersPiece}
+use Rattle.script_play.specs.Encoding.{Added, AddedBy, AnsweredPart, AnswersPiece}
 use Rattle.script_play.specs.Encoding.{AnswersSource, FrontAdded, StopsWriting}
 use Rattle.script_play.proofs.AddedLemmas.{added_both, added_none, front_both, writes_later}
 use Rattle.script_play.proofs.PlayedLemmas.{grows_none}

@@ -1,5 +1,5 @@
 -- Replies that are taken until fewer come, and messages that are cut until none comes.
-use Rattle.std.proofs.Common.{ℕ, ◌≡◌, ◌≢◌, ◌⊎◌, Bool, true, false, List, [], ◌∷◌, ◌++◌, Ok, Err, Result, refl, sym, ap, subst, ◌∙◌}
+use Rattle.std.proofs.Common.{ℕ, ◌≡◌, ◌≢◌, ◌⊎◌, Bool, true, false, List, [], ◌∷◌, ◌++◌, Ok, Err, Result, refl, sym, subst, ◌∙◌}
 use Rattle.std.proofs.Common.{append_assoc, inl, inr}
 use Rattle.std.specs.List.{AllByRecursion}
 use Rattle.outside.specs.Seen.{SinkSeen}
@@ -15,9 +15,7 @@ use Rattle.book_history.specs.declared.outcomes.Why.{Why}
 use Rattle.book_history.specs.Entries.{Entry, History}
 use Rattle.book_history.specs.Entries.Entry.{LineEntered, MessageCut, RepliesTaken}
 use Rattle.book_history.specs.Legal.{IsLegal}
-use Rattle.book_core.specs.Seen.{Seen}
-use Rattle.book_core.specs.Stands.{Stands}
-use Rattle.answer_texts.specs.Shown.{all_of, encoded}
+use Rattle.answer_texts.specs.Shown.{encoded}
 use Rattle.text_history.specs.Encodes.{AddsAnswer, AreTaken, IsFullTake, is_full}
 use Rattle.text_history.specs.Plays.{IsDrain, IsMessageOf, is_message}
 use Rattle.script_play.specs.declared.halt.Halt.{Halt}
@@ -25,9 +23,9 @@ use Rattle.script_play.specs.declared.halt.Halt.TheVariants as halt
 use Rattle.script_play.specs.declared.player.Player.{Player}
 use Rattle.script_play.specs.Player.{PlayerStands}
 use Rattle.script_play.specs.Writing.{Wrote}
-use Rattle.script_play.specs.Encoding.{Added, AddedPart, AddsAll, CutsOnce, EntersLine, Printed, PrintedPart, StopsWriting}
+use Rattle.script_play.specs.Encoding.{Added, AddsAll, CutsOnce, EntersLine, Printed}
 use Rattle.script_play.specs.Encoding.{TakesOnce, WritesText, WrotePart}
-use Rattle.script_play.proofs.AddedLemmas.{all_both, part_all, run_last, run_left, run_none, run_stopped, writes_later}
+use Rattle.script_play.proofs.AddedLemmas.{all_both, run_last, run_left, run_none, run_stopped, writes_later}
 use Rattle.script_play.proofs.AddedLemmas.{wrote_none}
 
 -- what a call leaves that makes an entry and writes what is printed of it

@@ -1,4 +1,4 @@
-use Rattle.std.proofs.Common.{◌<◌, ◌+◌, ◌++◌, ◌∙◌, ap, drop, length, take, refl, arith}
+use Rattle.std.proofs.Common.{◌<◌, ◌+◌, ◌++◌, ap, drop, length, take, refl, arith}
 use Rattle.std.proofs.lemmas.Result.{err_from_is_err_and}
 use Rattle.line_cutter.specs.Cutting.{standing}
 use Rattle.script_play.specs.Streams.{input_limit}
