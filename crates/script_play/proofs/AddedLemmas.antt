@@ -52,7 +52,8 @@ part_all text sink sink' wrote = record {
 }
 
 -- a call that stopped behind what was written
-pub writes_later : (sink mid sink' : SinkSeen) (halted : Halt) → mid.faults ≡ sink.faults → StopsWriting mid sink' halted
+pub writes_later : (sink mid sink' : SinkSeen) (halted : Halt) → mid.faults ≡ sink.faults → StopsWriting mid sink'
+    halted
     → StopsWriting sink sink' halted
 writes_later sink mid sink' halt.Memory same stops = stops ∙ same
 writes_later sink mid sink' halt.Write same stops = subst (λ (before : ℕ). CountsOne before sink'.faults) same stops
@@ -62,7 +63,8 @@ writes_later sink mid sink' halt.File same stops = absurd stops
 writes_later sink mid sink' (halt.Script line) same stops = absurd stops
 
 -- what is printed of entries that were added
-pub all_both : (text : Entry → List ℕ) (added H : History) → all_of text (added ++ H) ≡ all_of text H ++ all_of text added
+pub all_both : (text : Entry → List ℕ) (added H : History) → all_of text (added ++ H) ≡ all_of text H ++ all_of text
+    added
 all_both text [] H = sym (append-nil (all_of text H))
 all_both text (entry ∷ added) H =
     ap (λ (front : List ℕ). front ++ text entry) (all_both text added H)
@@ -91,7 +93,8 @@ module _ (Done : History → Type 0) (cfg : Sections) (H : History) (sink mid si
 
   -- one more was made, and not all of it written
   pub run_stopped : (entries more : History) (entry : Entry) → Wrote (all_of encoded entries) sink mid
-      → Done (more ++ entry ∷ entries) → PrintedPart entry cfg (entries ++ H) mid sink' → AddedPart Done cfg H sink sink'
+      → Done (more ++ entry ∷ entries) → PrintedPart entry cfg (entries ++ H) mid sink' → AddedPart Done cfg H sink
+      sink'
   run_stopped entries more entry wrote done printed = record {
     added = entry ∷ entries;
     more = more;

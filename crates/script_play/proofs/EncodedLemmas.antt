@@ -180,8 +180,11 @@ module _ (cfg : Sections) (source source' : SourceSeen) (sink mid sink' : SinkSe
       → WorksOff AddsCuts (numbered 0 cfg.neighbors) cfg (was.answered.added ++ started.raised) player mid sink' result
       → Encodes cfg source source' sink sink' (status_by result)
   cuts_after opened between player started was (Ok done) cuts = cut_whole opened between player started was cuts
-  cuts_after opened between player started was (Err halt.Memory) (cuts, stops) =
-      (part (cut_part opened between started was cuts), writes_later sink mid sink' halt.Memory was.answered.wrote.same stops)
+  cuts_after opened between player started was (Err halt.Memory) (cuts, stops) = (
+    part (cut_part opened between started was cuts),
+    writes_later sink mid sink' halt.Memory
+        was.answered.wrote.same stops,
+  )
   cuts_after opened between player started was (Err halt.Write) (cuts, stops) =
       (cut_part opened between started was cuts, writes_later sink mid sink' halt.Write was.answered.wrote.same stops)
   cuts_after opened between player started was (Err halt.Read) (cuts, stops) = absurd stops

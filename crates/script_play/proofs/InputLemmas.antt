@@ -34,7 +34,8 @@ pub record InputSoFar (cfg : Sections) (H : History) (held : Cutting) (player : 
   pub cut : HasCut bytes (lines bytes) held
   pub answered : Added (AddedBy AddsAnswer H (lines bytes)) cfg H player sink sink'
 
-pub input_none : (cfg : Sections) (H : History) (held : Cutting) (player : Player) (source : SourceSeen) (sink : SinkSeen)
+pub input_none : (cfg : Sections) (H : History) (held : Cutting) (player : Player) (source : SourceSeen)
+    (sink : SinkSeen)
     → held ≡ fresh → PlayerStands cfg H player → InputSoFar cfg H held player source source sink sink 0
 input_none cfg H held player source sink new stands = record {
   bytes = [];
@@ -77,7 +78,8 @@ pub input_part : (cfg : Sections) (H : History) (held held' : Cutting) (between 
     → InputSoFar cfg H held between source source' sink sink' count → GavePiece source' source'' piece
     → AnswersPiece piece held held' between now sink' sink'' (Err halted) → count + length piece < input_limit
     → AnsweredPart cfg H source source'' sink sink'' × StopsWriting sink sink'' halted
-input_part cfg H held held' between now source source' source'' sink sink' sink'' piece count halted was gave answers short
+input_part cfg H held held' between now source source' source'' sink sink' sink'' piece count halted was gave answers
+    short
     =
     let next = answers cfg was.bytes (lines was.bytes) (was.answered.added ++ H) was.cut was.answered.stands in
     let few : length (was.bytes ++ piece) < input_limit =

@@ -1,5 +1,6 @@
 -- Sessions that are brought up one after another, and slots that are gone through in the same order.
-use Rattle.std.proofs.Common.{ℕ, zero, suc, ◌≡◌, ◌+◌, ◌<◌, Ok, Err, List, [], ◌∷◌, ◌++◌, Some, take, ap, sym, refl, subst}
+use Rattle.std.proofs.Common.{ℕ, zero, suc, ◌≡◌, ◌+◌, ◌<◌, Ok, Err, List, [], ◌∷◌, ◌++◌, Some, take, ap, sym, refl}
+use Rattle.std.proofs.Common.{subst}
 use Rattle.std.proofs.Common.{◌∙◌, arith, length, map, take_all, get_or, ◌≤◌}
 use Rattle.std.specs.Prelude.{slice_get}
 use Rattle.std.proofs.lemmas.List.{length-map, map-append, take_more}
@@ -59,7 +60,8 @@ slot_at first (suc n) place (other ∷ neighbors) is within =
 settings_at : (n : ℕ) (neighbors : List Neighbor) (neighbor : Neighbor) → slice_get neighbors n ≡ Some neighbor
     → slice_get (settings_of neighbors) n ≡ Some neighbor.settings
 settings_at n [] neighbor is = absurd cc
-settings_at zero (first ∷ neighbors) neighbor is = ap (λ (one : Neighbor). Some one.settings) (same_Some first neighbor is)
+settings_at zero (first ∷ neighbors) neighbor is = ap (λ (one : Neighbor). Some one.settings)
+    (same_Some first neighbor is)
 settings_at (suc n) (first ∷ neighbors) neighbor is = settings_at n neighbors neighbor is
 
 -- the settings of one neighbour more

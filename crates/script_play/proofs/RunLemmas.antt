@@ -1,5 +1,6 @@
 -- Replies that are taken until fewer come, and messages that are cut until none comes.
-use Rattle.std.proofs.Common.{ℕ, ◌≡◌, ◌≢◌, ◌⊎◌, Bool, true, false, List, [], ◌∷◌, ◌++◌, Ok, Err, Result, refl, sym, subst, ◌∙◌}
+use Rattle.std.proofs.Common.{ℕ, ◌≡◌, ◌≢◌, ◌⊎◌, Bool, true, false, List, [], ◌∷◌, ◌++◌, Ok, Err, Result, refl, sym}
+use Rattle.std.proofs.Common.{subst, ◌∙◌}
 use Rattle.std.proofs.Common.{append_assoc, inl, inr}
 use Rattle.std.specs.List.{AllByRecursion}
 use Rattle.outside.specs.Seen.{SinkSeen}
@@ -40,7 +41,8 @@ pub took_once : (given : Take) (full : Bool) (cfg : Sections) (H : History) (pla
 took_once given full cfg H player sink sink' is stands wrote =
     (given, sym is, entry_printed (RepliesTaken 0 1 given) cfg H player sink sink' stands wrote)
 
-pub took_part : (given : Take) (cfg : Sections) (H : History) (now player : Player) (sink sink' : SinkSeen) (halted : Halt)
+pub took_part : (given : Take) (cfg : Sections) (H : History) (now player : Player) (sink sink' : SinkSeen)
+    (halted : Halt)
     → PlayerStands cfg (RepliesTaken 0 1 given ∷ H) player
     → WritesText (encoded (RepliesTaken 0 1 given)) sink sink' (Err halted)
     → TakesOnce cfg H now sink sink' (Err halted)

@@ -125,7 +125,8 @@ const STORIES: [(&str, &str, &str, &str); 9] = [
         "one that it carries",
         IPV4_PATH,
         "announce route 10.0.0.0/24 next-hop 192.0.2.1 path-information 7\n",
-        "done\nupdate 0 more M003302000000144001010040020602010000FDE9400304C000020100000007180A0000\n\
+        "done\n\
+         update 0 more M003302000000144001010040020602010000FDE9400304C000020100000007180A0000\n\
          update 0 last M00170200000000\n",
     ),
     (
@@ -164,7 +165,7 @@ const LINES: [(&str, &str); 5] = [
     ),
     (
         "disable-ack\nannounce route 10.0.0.1/24 next-hop 192.0.2.1\nenable-ack\nfrob\n",
-        "done\nerror\n",
+        "done\ndone\nerror\n",
     ),
 ];
 
