@@ -1,9 +1,9 @@
 -- Entries that are added one behind the other, and what is printed of them.
-use Rattle.std.proofs.Common.{ℕ, ◌≡◌, List, [], ◌∷◌, ◌++◌, Option, Some, None, Result, Ok, Err, ap, sym, refl, subst, ◌∙◌}
+use Rattle.std.proofs.Common.{ℕ, ◌≡◌, List, [], ◌∷◌, ◌++◌, ap, sym, refl, subst, ◌∙◌}
 use Rattle.std.proofs.Common.{append_assoc, append-nil}
 use Rattle.std.specs.List.{AllByRecursion}
 use Rattle.outside.specs.Seen.{SinkSeen}
-use Rattle.outside.specs.Told.{CountsOne, Grows}
+use Rattle.outside.specs.Told.{CountsOne}
 use Rattle.outside.proofs.ToldLemmas.{grows_more}
 use Rattle.config_model.specs.Sections.{Sections}
 use Rattle.book_history.specs.Entries.{Entry, History}
@@ -14,7 +14,7 @@ use Rattle.script_play.specs.declared.halt.Halt.{Halt}
 use Rattle.script_play.specs.declared.halt.Halt.TheVariants as halt
 use Rattle.script_play.specs.declared.player.Player.{Player}
 use Rattle.script_play.specs.Player.{PlayerStands}
-use Rattle.script_play.specs.Writing.{Writes, Wrote}
+use Rattle.script_play.specs.Writing.{Wrote}
 use Rattle.script_play.specs.Encoding.{Added, AddedBy, AddedPart, FrontAdded, Printed, PrintedPart, StopsWriting}
 use Rattle.script_play.specs.Encoding.{WrotePart}
 use Rattle.script_play.proofs.PlayedLemmas.{grows_none}
@@ -52,7 +52,8 @@ part_all text sink sink' wrote = record {
 }
 
 -- a call that stopped behind what was written
-pub writes_later : (sink mid sink' : SinkSeen) (halted : Halt) → mid.faults ≡ sink.faults → StopsWriting mid sink' halted
+pub writes_later : (sink mid sink' : SinkSeen) (halted : Halt) → mid.faults ≡ sink.faults → StopsWriting mid sink'
+    halted
     → StopsWriting sink sink' halted
 writes_later sink mid sink' halt.Memory same stops = stops ∙ same
 writes_later sink mid sink' halt.Write same stops = subst (λ (before : ℕ). CountsOne before sink'.faults) same stops
@@ -62,7 +63,8 @@ writes_later sink mid sink' halt.File same stops = absurd stops
 writes_later sink mid sink' (halt.Script line) same stops = absurd stops
 
 -- what is printed of entries that were added
-pub all_both : (text : Entry → List ℕ) (added H : History) → all_of text (added ++ H) ≡ all_of text H ++ all_of text added
+pub all_both : (text : Entry → List ℕ) (added H : History) → all_of text (added ++ H) ≡ all_of text H ++ all_of text
+    added
 all_both text [] H = sym (append-nil (all_of text H))
 all_both text (entry ∷ added) H =
     ap (λ (front : List ℕ). front ++ text entry) (all_both text added H)
@@ -91,7 +93,8 @@ module _ (Done : History → Type 0) (cfg : Sections) (H : History) (sink mid si
 
   -- one more was made, and not all of it written
   pub run_stopped : (entries more : History) (entry : Entry) → Wrote (all_of encoded entries) sink mid
-      → Done (more ++ entry ∷ entries) → PrintedPart entry cfg (entries ++ H) mid sink' → AddedPart Done cfg H sink sink'
+      → Done (more ++ entry ∷ entries) → PrintedPart entry cfg (entries ++ H) mid sink' → AddedPart Done cfg H sink
+      sink'
   run_stopped entries more entry wrote done printed = record {
     added = entry ∷ entries;
     more = more;

@@ -1,5 +1,6 @@
 -- Lines that end in a piece, answered one by one.
-use Rattle.std.proofs.Common.{ℕ, ◌≡◌, ◌⊎◌, Bool, true, false, cond, List, [], ◌∷◌, ◌++◌, length, take, drop, Option, Some, None}
+use Rattle.std.proofs.Common.{ℕ, ◌≡◌, ◌⊎◌, Bool, true, false, cond, List, [], ◌∷◌, ◌++◌, length, take, drop, Option}
+use Rattle.std.proofs.Common.{Some, None}
 use Rattle.std.proofs.Common.{Ok, Err, ap, sym, ◌∙◌, refl, subst, append_assoc, append-nil, arith, inl, inr}
 use Rattle.std.specs.Option.{option_to_list}
 use Rattle.std.proofs.lemmas.List.{take-append-drop, take_all}
@@ -9,12 +10,9 @@ use Rattle.line_cutter.specs.Chunking.{HasCut}
 use Rattle.line_cutter.specs.Cutting.{Cutting, advanced, count_of, fed, fresh, standing}
 use Rattle.line_cutter.proofs.ChunkingLemmas.{cut_passes, cut_takes}
 use Rattle.line_cutter.proofs.UnfinishedLemmas.{lines_stay}
-use Rattle.config_model.specs.Sections.{Sections}
-use Rattle.book_history.specs.Entries.{History}
 use Rattle.text_history.specs.Encodes.{AddsAnswer}
 use Rattle.script_play.specs.declared.halt.Halt.{Halt}
 use Rattle.script_play.specs.declared.player.Player.{Player}
-use Rattle.script_play.specs.Player.{PlayerStands}
 use Rattle.script_play.specs.Encoding.{AnswersLine, AnswersPiece}
 use Rattle.script_play.proofs.AddedLemmas.{added_both, added_none, added_one, front_both, front_one, writes_later}
 
@@ -106,7 +104,8 @@ answers_stopped : (piece front behind : List ℕ) (line : Line) (held after last
     → AnswersPiece front held after was between sink mid (Ok tt) → Some line ≡ standing after
     → AnswersLine line between player mid sink' (Err halted)
     → AnswersPiece piece held last was now sink sink' (Err halted)
-answers_stopped piece front behind line held after last was between player now sink mid sink' halted is answers stood one
+answers_stopped piece front behind line held after last was between player now sink mid sink' halted is answers stood
+    one
     cfg bytes passed H cut stands =
     let before = answers cfg bytes passed H cut stands in
     let stay = lines_stay (bytes ++ front) behind in
@@ -134,7 +133,8 @@ pub front_goes_on : (piece rest left : List ℕ) (line : Line) (held held' after
     → left ≡ drop count rest → Some line ≡ standing after → held'' ≡ advanced after
     → AnswersLine line between player mid sink' (Ok tt)
     → AnsweredFront piece left held held'' was player sink sink'
-front_goes_on piece rest left line held held' after held'' count was between player sink mid sink' took counted is left_is
+front_goes_on piece rest left line held held' after held'' count was between player sink mid sink' took counted is
+    left_is
     stood passes one =
     record {
       gone = took.gone ++ take count rest;
@@ -155,7 +155,8 @@ pub front_stopped : (piece rest : List ℕ) (line : Line) (held held' after last
     → AnswersPiece piece held last was now sink sink' (Err halted)
 front_stopped piece rest line held held' after last count was between player now sink mid sink' halted took counted is
     stood one =
-    answers_stopped piece (took.gone ++ take count rest) (drop count rest) line held after last was between player now sink
+    answers_stopped piece (took.gone ++ take count rest) (drop count rest) line held after last was between player now
+    sink
     mid sink' halted (parts piece took.gone rest count took.piece_is)
     (answers_fed took.gone rest held held' after count was between sink mid took.answers counted is) stood one
 

@@ -1,23 +1,20 @@
 -- A whole input that is encoded, or a part of one.
-use Rattle.std.proofs.Common.{ℕ, ◌≡◌, ◌<◌, List, [], ◌∷◌, ◌++◌, Ok, Err, Result, ap, sym, refl, subst, ◌∙◌, arith, inl, inr}
+use Rattle.std.proofs.Common.{ℕ, ◌≡◌, List, [], ◌++◌, Ok, Err, Result, ap, sym, refl, subst, ◌∙◌, arith, inl, inr}
 use Rattle.std.proofs.Common.{append_assoc, append-nil}
 use Rattle.outside.specs.Seen.{SinkSeen, SourceSeen}
-use Rattle.text_forms.specs.Lines.{Line, lines}
-use Rattle.config_model.specs.declared.sections.Neighbor.{Neighbor}
+use Rattle.text_forms.specs.Lines.{lines}
 use Rattle.config_model.specs.Sections.{Sections}
 use Rattle.book_history.specs.Entries.{History}
-use Rattle.book_history.specs.Legal.{IsLegal}
 use Rattle.answer_texts.specs.Shown.{all_of, encoded}
 use Rattle.text_history.specs.Adding.{Adding}
-use Rattle.text_history.specs.Encodes.{AddsAnswer, AddsCuts, numbered}
+use Rattle.text_history.specs.Encodes.{AddsCuts, numbered}
 use Rattle.script_play.specs.declared.halt.Halt.{Halt}
 use Rattle.script_play.specs.declared.halt.Halt.TheVariants as halt
 use Rattle.script_play.specs.declared.player.Player.{Player}
 use Rattle.script_play.specs.Player.{PlayerStands}
-use Rattle.script_play.specs.Streams.{ReadPart, ReadWhole, input_limit}
 use Rattle.script_play.specs.Writing.{Wrote}
-use Rattle.script_play.specs.Encoding.{Added, AddedBy, AnsweredPart, AnsweredSoFar, AnsweredWhole, AnswersSource, AreAnswered}
-use Rattle.script_play.specs.Encoding.{EncodedPart, EncodedSoFar, EncodedWhole, Encodes, FrontAdded, Started, StopsWriting}
+use Rattle.script_play.specs.Encoding.{Added, AddedBy, AnsweredPart, AnsweredSoFar, AnsweredWhole, AnswersSource}
+use Rattle.script_play.specs.Encoding.{EncodedPart, EncodedSoFar, EncodedWhole, Encodes, FrontAdded, Started}
 use Rattle.script_play.specs.Encoding.{WorksOff, WrotePart, part}
 use Rattle.script_play.specs.Streams.{status_by}
 use Rattle.script_play.proofs.AddedLemmas.{all_both, writes_later, wrote_both, wrote_part}
@@ -183,8 +180,11 @@ module _ (cfg : Sections) (source source' : SourceSeen) (sink mid sink' : SinkSe
       → WorksOff AddsCuts (numbered 0 cfg.neighbors) cfg (was.answered.added ++ started.raised) player mid sink' result
       → Encodes cfg source source' sink sink' (status_by result)
   cuts_after opened between player started was (Ok done) cuts = cut_whole opened between player started was cuts
-  cuts_after opened between player started was (Err halt.Memory) (cuts, stops) =
-      (part (cut_part opened between started was cuts), writes_later sink mid sink' halt.Memory was.answered.wrote.same stops)
+  cuts_after opened between player started was (Err halt.Memory) (cuts, stops) = (
+    part (cut_part opened between started was cuts),
+    writes_later sink mid sink' halt.Memory
+        was.answered.wrote.same stops,
+  )
   cuts_after opened between player started was (Err halt.Write) (cuts, stops) =
       (cut_part opened between started was cuts, writes_later sink mid sink' halt.Write was.answered.wrote.same stops)
   cuts_after opened between player started was (Err halt.Read) (cuts, stops) = absurd stops

@@ -1,10 +1,8 @@
 -- An input that is read piece by piece and answered as it comes.
-use Rattle.std.proofs.Common.{ℕ, ◌≡◌, ◌⊎◌, ◌+◌, ◌-◌, ◌<◌, ◌≤◌, List, [], ◌++◌, length, Option, Some, None, Ok, Err}
-use Rattle.std.proofs.Common.{ap, sym, ◌∙◌, refl, subst, arith, append-nil, true, min, take, drop, length-append}
-use Rattle.std.proofs.Common.{length-drop, length-take}
-use Rattle.std.proofs.lemmas.List.{take-append-le}
+use Rattle.std.proofs.Common.{ℕ, ◌≡◌, ◌+◌, ◌<◌, ◌≤◌, List, [], ◌++◌, length, Option, None, Ok, Err}
+use Rattle.std.proofs.Common.{sym, ◌∙◌, refl, subst, arith, append-nil, length-append}
 use Rattle.outside.specs.Seen.{SourceSeen, SinkSeen}
-use Rattle.outside.specs.Told.{AreLeft, AreLeftFrom, CountsOne, Grows, Shrinks}
+use Rattle.outside.specs.Told.{CountsOne, Grows, Shrinks}
 use Rattle.outside.proofs.ToldLemmas.{grows_more, shrinks_more}
 use Rattle.text_forms.specs.Lines.{Line, lines}
 use Rattle.line_cutter.specs.Chunking.{HasCut}
@@ -18,7 +16,7 @@ use Rattle.script_play.specs.declared.halt.Halt.TheVariants as halt
 use Rattle.script_play.specs.declared.player.Player.{Player}
 use Rattle.script_play.specs.Player.{PlayerStands}
 use Rattle.script_play.specs.Streams.{ReadPart, input_limit, read_limit}
-use Rattle.script_play.specs.Encoding.{Added, AddedBy, AnsweredPart, AnsweredSoFar, AnsweredWhole, AnswersPiece}
+use Rattle.script_play.specs.Encoding.{Added, AddedBy, AnsweredPart, AnswersPiece}
 use Rattle.script_play.specs.Encoding.{AnswersSource, FrontAdded, StopsWriting}
 use Rattle.script_play.proofs.AddedLemmas.{added_both, added_none, front_both, writes_later}
 use Rattle.script_play.proofs.PlayedLemmas.{grows_none}
@@ -36,7 +34,8 @@ pub record InputSoFar (cfg : Sections) (H : History) (held : Cutting) (player : 
   pub cut : HasCut bytes (lines bytes) held
   pub answered : Added (AddedBy AddsAnswer H (lines bytes)) cfg H player sink sink'
 
-pub input_none : (cfg : Sections) (H : History) (held : Cutting) (player : Player) (source : SourceSeen) (sink : SinkSeen)
+pub input_none : (cfg : Sections) (H : History) (held : Cutting) (player : Player) (source : SourceSeen)
+    (sink : SinkSeen)
     → held ≡ fresh → PlayerStands cfg H player → InputSoFar cfg H held player source source sink sink 0
 input_none cfg H held player source sink new stands = record {
   bytes = [];
@@ -79,7 +78,8 @@ pub input_part : (cfg : Sections) (H : History) (held held' : Cutting) (between 
     → InputSoFar cfg H held between source source' sink sink' count → GavePiece source' source'' piece
     → AnswersPiece piece held held' between now sink' sink'' (Err halted) → count + length piece < input_limit
     → AnsweredPart cfg H source source'' sink sink'' × StopsWriting sink sink'' halted
-input_part cfg H held held' between now source source' source'' sink sink' sink'' piece count halted was gave answers short
+input_part cfg H held held' between now source source' source'' sink sink' sink'' piece count halted was gave answers
+    short
     =
     let next = answers cfg was.bytes (lines was.bytes) (was.answered.added ++ H) was.cut was.answered.stands in
     let few : length (was.bytes ++ piece) < input_limit =

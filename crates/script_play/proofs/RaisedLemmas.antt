@@ -1,12 +1,12 @@
 -- Sessions that are brought up one after another, and slots that are gone through in the same order.
-use Rattle.std.proofs.Common.{ℕ, zero, suc, ◌≡◌, ◌+◌, ◌<◌, Ok, Err, List, [], ◌∷◌, ◌++◌, Option, Some, None, take, ap, sym, refl, subst}
+use Rattle.std.proofs.Common.{ℕ, zero, suc, ◌≡◌, ◌+◌, ◌<◌, Ok, Err, List, [], ◌∷◌, ◌++◌, Some, take, ap, sym, refl}
+use Rattle.std.proofs.Common.{subst}
 use Rattle.std.proofs.Common.{◌∙◌, arith, length, map, take_all, get_or, ◌≤◌}
 use Rattle.std.specs.Prelude.{slice_get}
 use Rattle.std.proofs.lemmas.List.{length-map, map-append, take_more}
 use Rattle.std.proofs.lemmas.Option.{same_Some}
 use Rattle.outside.specs.Seen.{SinkSeen}
 use Rattle.route_values.specs.declared.settings.Settings.{Settings}
-use Rattle.route_values.specs.Caps.{Caps}
 use Rattle.config_model.specs.declared.sections.Neighbor.{Neighbor}
 use Rattle.config_model.specs.Sections.{Sections}
 use Rattle.book_history.specs.declared.outcomes.Spawn.{Spawn}
@@ -14,15 +14,13 @@ use Rattle.book_history.specs.declared.outcomes.Up.{Up}
 use Rattle.book_history.specs.Entries.{Entry, History}
 use Rattle.book_history.specs.Entries.Entry.{CameUp, SpawnAsked}
 use Rattle.answer_texts.specs.Shown.{all_of, encoded}
-use Rattle.book_core.specs.Seen.{Seen}
-use Rattle.book_core.specs.Stands.{Stands}
 use Rattle.text_history.specs.Adding.{Adding}
 use Rattle.text_history.specs.Encodes.{AddsCuts, AddsUp, caps_sent, numbered}
 use Rattle.text_history.specs.Plays.{IsDrain}
 use Rattle.script_play.specs.declared.halt.Halt.{Halt}
 use Rattle.script_play.specs.declared.player.Player.{Player}
 use Rattle.script_play.specs.Player.{PlayerStands}
-use Rattle.script_play.specs.Encoding.{Added, AddedBy, AddsAll, FrontAdded, Started, StopsWriting, WorksOff, settings_of}
+use Rattle.script_play.specs.Encoding.{Added, AddedBy, AddsAll, FrontAdded, Started, WorksOff, settings_of}
 use Rattle.script_play.proofs.AddedLemmas.{added_both, added_none, added_one, adding_both, front_both}
 use Rattle.script_play.proofs.AddedLemmas.{front_one, writes_later}
 
@@ -62,7 +60,8 @@ slot_at first (suc n) place (other ∷ neighbors) is within =
 settings_at : (n : ℕ) (neighbors : List Neighbor) (neighbor : Neighbor) → slice_get neighbors n ≡ Some neighbor
     → slice_get (settings_of neighbors) n ≡ Some neighbor.settings
 settings_at n [] neighbor is = absurd cc
-settings_at zero (first ∷ neighbors) neighbor is = ap (λ (one : Neighbor). Some one.settings) (same_Some first neighbor is)
+settings_at zero (first ∷ neighbors) neighbor is = ap (λ (one : Neighbor). Some one.settings)
+    (same_Some first neighbor is)
 settings_at (suc n) (first ∷ neighbors) neighbor is = settings_at n neighbors neighbor is
 
 -- the settings of one neighbour more

@@ -1,5 +1,6 @@
 -- Replies that are taken until fewer come, and messages that are cut until none comes.
-use Rattle.std.proofs.Common.{ℕ, ◌≡◌, ◌≢◌, ◌⊎◌, Bool, true, false, List, [], ◌∷◌, ◌++◌, Ok, Err, Result, refl, sym, ap, subst, ◌∙◌}
+use Rattle.std.proofs.Common.{ℕ, ◌≡◌, ◌≢◌, ◌⊎◌, Bool, true, false, List, [], ◌∷◌, ◌++◌, Ok, Err, Result, refl, sym}
+use Rattle.std.proofs.Common.{subst, ◌∙◌}
 use Rattle.std.proofs.Common.{append_assoc, inl, inr}
 use Rattle.std.specs.List.{AllByRecursion}
 use Rattle.outside.specs.Seen.{SinkSeen}
@@ -15,9 +16,7 @@ use Rattle.book_history.specs.declared.outcomes.Why.{Why}
 use Rattle.book_history.specs.Entries.{Entry, History}
 use Rattle.book_history.specs.Entries.Entry.{LineEntered, MessageCut, RepliesTaken}
 use Rattle.book_history.specs.Legal.{IsLegal}
-use Rattle.book_core.specs.Seen.{Seen}
-use Rattle.book_core.specs.Stands.{Stands}
-use Rattle.answer_texts.specs.Shown.{all_of, encoded}
+use Rattle.answer_texts.specs.Shown.{encoded}
 use Rattle.text_history.specs.Encodes.{AddsAnswer, AreTaken, IsFullTake, is_full}
 use Rattle.text_history.specs.Plays.{IsDrain, IsMessageOf, is_message}
 use Rattle.script_play.specs.declared.halt.Halt.{Halt}
@@ -25,9 +24,9 @@ use Rattle.script_play.specs.declared.halt.Halt.TheVariants as halt
 use Rattle.script_play.specs.declared.player.Player.{Player}
 use Rattle.script_play.specs.Player.{PlayerStands}
 use Rattle.script_play.specs.Writing.{Wrote}
-use Rattle.script_play.specs.Encoding.{Added, AddedPart, AddsAll, CutsOnce, EntersLine, Printed, PrintedPart, StopsWriting}
+use Rattle.script_play.specs.Encoding.{Added, AddsAll, CutsOnce, EntersLine, Printed}
 use Rattle.script_play.specs.Encoding.{TakesOnce, WritesText, WrotePart}
-use Rattle.script_play.proofs.AddedLemmas.{all_both, part_all, run_last, run_left, run_none, run_stopped, writes_later}
+use Rattle.script_play.proofs.AddedLemmas.{all_both, run_last, run_left, run_none, run_stopped, writes_later}
 use Rattle.script_play.proofs.AddedLemmas.{wrote_none}
 
 -- what a call leaves that makes an entry and writes what is printed of it
@@ -42,7 +41,8 @@ pub took_once : (given : Take) (full : Bool) (cfg : Sections) (H : History) (pla
 took_once given full cfg H player sink sink' is stands wrote =
     (given, sym is, entry_printed (RepliesTaken 0 1 given) cfg H player sink sink' stands wrote)
 
-pub took_part : (given : Take) (cfg : Sections) (H : History) (now player : Player) (sink sink' : SinkSeen) (halted : Halt)
+pub took_part : (given : Take) (cfg : Sections) (H : History) (now player : Player) (sink sink' : SinkSeen)
+    (halted : Halt)
     → PlayerStands cfg (RepliesTaken 0 1 given ∷ H) player
     → WritesText (encoded (RepliesTaken 0 1 given)) sink sink' (Err halted)
     → TakesOnce cfg H now sink sink' (Err halted)

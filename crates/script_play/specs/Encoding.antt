@@ -20,7 +20,7 @@ use Rattle.book_history.specs.Entries.Entry.{CameUp, LineEntered, MessageCut, Re
 use Rattle.book_history.specs.Legal.{IsLegal}
 use Rattle.answer_texts.specs.Shown.{all_of, encoded}
 use Rattle.text_history.specs.Adding.{Adding}
-use Rattle.text_history.specs.Encodes.{AddsAnswer, AddsCuts, AddsUp, IsEncode, IsEncodePart, caps_sent, is_full}
+use Rattle.text_history.specs.Encodes.{AddsAnswer, AddsUp, IsEncode, IsEncodePart, caps_sent, is_full}
 use Rattle.text_history.specs.Encodes.{numbered}
 use Rattle.text_history.specs.Plays.{is_message}
 use Rattle.script_play.specs.declared.status.Status.{Status}

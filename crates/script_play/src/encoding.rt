@@ -1,47 +1,32 @@
 //! A helper's lines, and the messages that they leave.
-ghost use Rattle.std.specs.Prelude.{◌≡◌, ◌<◌, ◌≤◌, ◌∷◌, [], List, OnOk, IfOk, length, None};
+ghost use Rattle.std.specs.Prelude.{◌≡◌, ◌<◌, ◌≤◌, [], List, IfOk, length};
 ghost use Rattle.outside.specs.Seen.{sink_seen, source_seen};
-ghost use Rattle.route_grammar.specs.declared.fault.ReadFault.{ReadFault};
-ghost use Rattle.command_grammar.specs.declared.command.Command.{Command as Said};
-ghost use Rattle.text_forms.specs.LineTold.{line_told};
-ghost use Rattle.line_cutter.specs.Cutting.{fresh, standing};
+ghost use Rattle.line_cutter.specs.Cutting.{fresh};
 ghost use Rattle.config_model.specs.declared.sections.Neighbor.{Neighbor};
 ghost use Rattle.config_model.specs.Limits.{max_peers};
 ghost use Rattle.config_model.specs.Sections.{Sections};
 ghost use Rattle.book_history.specs.Entries.{History};
-ghost use Rattle.book_history.specs.Entries.Entry.{MessageCut, RepliesTaken};
+ghost use Rattle.book_history.specs.Entries.Entry.{MessageCut};
 ghost use Rattle.answer_texts.specs.Shown.{encoded};
-ghost use Rattle.text_history.specs.Encodes.{AddsCuts, AreTaken, caps_sent, is_full};
-ghost use Rattle.text_history.specs.Encodes.{numbered};
+ghost use Rattle.text_history.specs.Encodes.{AddsCuts, caps_sent, numbered};
 ghost use Rattle.text_history.specs.Plays.{IsDrain};
 ghost use Rattle.script_play.specs.Player.{PlayerStands};
-ghost use Rattle.script_play.specs.Encoding.{AddsAll, AnswersLine, AnswersPiece, AnswersSource};
-ghost use Rattle.script_play.specs.Encoding.{CutsOnce, Encodes, EntersLine, Raises, Spawns};
-ghost use Rattle.script_play.specs.Encoding.{Started, TakesOnce};
+ghost use Rattle.script_play.specs.Encoding.{AddsAll, CutsOnce, Encodes, Raises, Spawns, Started};
 ghost use Rattle.script_play.specs.Encoding.{WorksOff, WritesText, settings_of};
 ghost use Rattle.script_play.specs.Streams.{status_by};
 
+use crate::answering::answer_all;
 use crate::halt::Halt;
 use crate::player::Player;
 use crate::status::Status;
 use crate::writing::write;
-use ack_queue::MAX_TAKEN;
-use answer_texts::put_replies;
 use answers::NoMemory;
-use book_core::{Cut, Spawn, Take, Verdict};
-use command_grammar::ReadLine;
+use book_core::{Cut, Spawn};
 use config_model::Config;
 use line_cutter::LineCutter;
-use outside::{Read, Sink, Source};
+use outside::{Sink, Source};
 use route_values::{Caps, Family, Settings};
 use std::alloc::Global;
-use text_forms::Line;
-
-// How many bytes of input are too many.
-const MAX_INPUT: usize = 1 << 40;
-
-// How many bytes one call of a source is asked for at most: what a pipe holds on Linux.
-const BUFFER: usize = 65_536;
 
 /// Encodes a helper's lines over a newly opened book: starts helper 0, brings each neighbour's session up, and answers
 /// the lines of the input. At its end the messages are cut that the lines leave, for one neighbour after the other.
@@ -164,132 +149,6 @@ fn caps_sent(settings: &Settings) -> Caps
         caps = caps.with(Family::Ipv6, settings.ipv6_send);
     }
     caps
-}
-
-// Answers the lines of the input.
-fn answer_all<S: Source, K: Sink>(
-    player: &mut Player,
-    cutter: &mut LineCutter,
-    input: &mut S,
-    output: &mut K,
-) -> Result<(), Halt>
-    requires { cutter.old ≡ fresh }
-    ensures { (cfg : Sections) (H : History) → PlayerStands cfg H player.old
-        → AnswersSource cfg H player.new
-        (source_seen S.given S.left S.ended S.faults input.old)
-        (source_seen S.given S.left S.ended S.faults input.new)
-        (sink_seen K.taken K.faults output.old) (sink_seen K.taken K.faults output.new) result }
-{
-    let mut count = 0;
-    let mut buffer = [0; BUFFER];
-    'pieces: while count < MAX_INPUT {
-        let room = buffer.len().min(MAX_INPUT - count);
-        match input.read(&mut buffer[..room]) {
-            Read::Got(got) => {
-                count += got;
-                if count == MAX_INPUT {
-                    return Err(Halt::Long);
-                }
-                answer_piece(player, cutter, &buffer[..got], output)?;
-            }
-            Read::End => return Ok(()),
-            Read::Failed => return Err(Halt::Read),
-        }
-    }
-    Err(Halt::Long)
-}
-
-// Answers the lines that end in a piece.
-fn answer_piece<K: Sink>(
-    player: &mut Player,
-    cutter: &mut LineCutter,
-    piece: &[u8],
-    output: &mut K,
-) -> Result<(), Halt>
-    requires none { standing cutter.old ≡ None }
-    ensures answers { AnswersPiece piece.now cutter.old cutter.new player.old player.new
-        (sink_seen K.taken K.faults output.old) (sink_seen K.taken K.faults output.new) result }
-    ensures none { OnOk result (standing cutter.new ≡ None) }
-{
-    let mut rest = piece;
-    'lines: loop {
-        let count = cutter.feed(rest);
-        (_, rest) = rest.split_at(count);
-        let Some(line) = cutter.peek() else {
-            return Ok(());
-        };
-        answer_line(player, line, output)?;
-        cutter.advance();
-    }
-}
-
-// Enters a line, and writes the replies that it leaves.
-fn answer_line<K: Sink>(player: &mut Player, line: Line<'_>, output: &mut K) -> Result<(), Halt>
-    ensures { AnswersLine (line_told line.entry) player.old player.new
-        (sink_seen K.taken K.faults output.old) (sink_seen K.taken K.faults output.new) result }
-{
-    match enter_line(player, line) {
-        Verdict::Ended => Ok(()),
-        Verdict::Done | Verdict::Busy | Verdict::Error(_) => take_all(player, output),
-    }
-}
-
-// Enters a line.
-fn enter_line(player: &mut Player, line: Line<'_>) -> Verdict
-    ensures { (cfg : Sections) (H : History) → PlayerStands cfg H player.old
-        → EntersLine cfg H (line_told line.entry) result player.new }
-{
-    let read = ReadLine::new(player.alloc, line);
-    player.book.line(0, 1, &read)
-}
-
-// Takes and writes replies until fewer come than are taken at once; memory is told to be wanting after more takes than
-// 64 bits count.
-fn take_all<K: Sink>(player: &mut Player, output: &mut K) -> Result<(), Halt>
-    ensures { (cfg : Sections) (H : History) → PlayerStands cfg H player.old
-        → AddsAll AreTaken cfg H player.new
-        (sink_seen K.taken K.faults output.old) (sink_seen K.taken K.faults output.new) result }
-{
-    'takes: for _ in 0..u64::MAX {
-        if !take_once(player, output)? {
-            return Ok(());
-        }
-    }
-    Err(Halt::Memory)
-}
-
-// Takes replies and writes them. Answers whether as many came as are taken at once.
-fn take_once<K: Sink>(player: &mut Player, output: &mut K) -> Result<bool, Halt>
-    ensures { (cfg : Sections) (H : History) → PlayerStands cfg H player.old
-        → TakesOnce cfg H player.new
-        (sink_seen K.taken K.faults output.old) (sink_seen K.taken K.faults output.new) result }
-{
-    let given = player.book.take(0, 1);
-    let full = is_full(&given);
-    write_replies(player, given, output)?;
-    Ok(full)
-}
-
-// Whether as many replies came as are taken at once.
-fn is_full(given: &Take) -> bool
-    ensures { result ≡ is_full given.now }
-{
-    match given {
-        Take::Replies(replies) => replies.len() == MAX_TAKEN,
-        Take::Ended | Take::Nothing => false,
-    }
-}
-
-// Writes replies as the helper reads them.
-fn write_replies<K: Sink>(player: &mut Player, given: Take, output: &mut K) -> Result<(), Halt>
-    ensures writes { WritesText (encoded (RepliesTaken 0 1 given))
-        (sink_seen K.taken K.faults output.old) (sink_seen K.taken K.faults output.new) result }
-    ensures stands { (cfg : Sections) (H : History) → PlayerStands cfg H player.old
-        → PlayerStands cfg H player.new }
-{
-    player.text.clear();
-    put_replies(&mut player.text, given)?;
-    write(output, &player.text)
 }
 
 // Makes and writes the messages of the first slots, in their order.

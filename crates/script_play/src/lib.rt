@@ -7,6 +7,7 @@
 //! child, and opens no session.
 #![tactic(auto)]
 
+mod answering;
 mod buffer;
 mod config_file;
 mod counting;

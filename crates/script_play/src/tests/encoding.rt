@@ -1,10 +1,6 @@
 //! A helper's lines, and the messages that they leave.
-use crate::{Status, encode};
-use config_model::{Config, MAX_HELPERS, MAX_PEERS, Slots};
-use config_reader::{ConfigError, read_config};
-use outside::{MemorySink, MemorySource};
-use std::alloc::Global;
-use std::test::Fail;
+use super::*;
+use crate::encode;
 
 // A neighbour of another AS that carries IPv4 alone.
 const IPV4: &str = "process h { run h; }
@@ -31,7 +27,7 @@ neighbor 127.0.0.1 { local-address 192.0.2.9; local-as 65001; peer-as 65002;
 ";
 
 // One neighbour of another AS with a static route, and one of the own AS with both families, which alone hears.
-const TWO: &str = "process h { run h; }
+const PAIR: &str = "process h { run h; }
 neighbor 192.0.2.2 { local-address 192.0.2.9; local-as 65001; peer-as 65002;
   family { ipv4 unicast; } static { route 10.0.0.0/24 next-hop 192.0.2.1; } }
 neighbor 192.0.2.3 { local-address 192.0.2.9; local-as 65001; peer-as 65001;
@@ -41,19 +37,11 @@ neighbor 192.0.2.3 { local-address 192.0.2.9; local-as 65001; peer-as 65001;
 const ROUTE: &str = "announce route 10.0.0.0/24 next-hop 192.0.2.1\n";
 
 // What is written of the route, and of the End-of-RIB marker of IPv4 behind it.
-const ROUTE_CUT: &str = "update 0 more FFFFFFFFFFFFFFFFFFFFFFFFFFFFFFFF\
-     002F02\
-     00000014\
-     40010100\
-     40020602010000FDE9\
-     400304C0000201\
-     180A0000\n\
-     update 0 last FFFFFFFFFFFFFFFFFFFFFFFFFFFFFFFF00170200000000\n";
+const ROUTE_CUT: &str =
+    "update 0 more M002F02000000144001010040020602010000FDE9400304C0000201180A0000\n\
+     update 0 last M00170200000000\n";
 
-const END: &str = "update 0 last FFFFFFFFFFFFFFFFFFFFFFFFFFFFFFFF00170200000000\n";
-
-// How many bytes the sink of a test keeps.
-const ROOM: usize = 1 << 16;
+const END: &str = "update 0 last M00170200000000\n";
 
 // How a command ended, what it wrote, and how often its input and its output failed.
 #[derive(Drop)]
@@ -64,35 +52,12 @@ struct Outcome {
     writes_failed: u64,
 }
 
-// Calls that fail, and how many bytes a call gives and takes.
-struct Outside<'a> {
-    given: usize,
-    reads: &'a [u64],
-    taken: usize,
-    writes: &'a [u64],
-}
-
-// All calls give and take what they can.
-const SURE: Outside<'static> = Outside {
-    given: usize::MAX,
-    reads: &[],
-    taken: usize::MAX,
-    writes: &[],
-};
-
-fn read(alloc: Global, file: &str) -> Result<Config, ConfigError> {
-    let slots = Slots {
-        helpers: MAX_HELPERS,
-        peers: MAX_PEERS,
-    };
-    read_config(alloc, file.as_bytes(), slots)
-}
-
 // Encodes lines over the configuration of a file.
-fn run(alloc: Global, file: &str, input: &str, outside: &Outside<'_>) -> Result<Outcome, Fail> {
+fn run(alloc: Global, file: &str, input: &str, calls: Calls<'_>) -> Result<Outcome, Fail> {
     let config = read(alloc, file)?;
-    let mut source = MemorySource::in_steps(input.as_bytes(), outside.given, outside.reads);
-    let mut sink = MemorySink::in_steps(alloc, ROOM, outside.taken, outside.writes)?;
+    let step = calls.step.max(1);
+    let mut source = MemorySource::in_steps(input.as_bytes(), step, calls.reads);
+    let mut sink = MemorySink::in_steps(alloc, ROOM, step, calls.writes)?;
     let status = encode(alloc, config, &mut source, &mut sink);
     told(alloc, status, &source, &sink)
 }
@@ -112,16 +77,16 @@ fn told(
     })
 }
 
-// Texts, one behind the other.
+// Texts, one behind the other, in which `M` stands for a marker.
 fn joined(alloc: Global, texts: &[&str]) -> Result<String, Fail> {
     let mut whole = String::new(alloc);
     for text in texts {
         whole.push_str(text)?;
     }
-    Ok(whole)
+    written(alloc, whole.as_str())
 }
 
-// A file, lines, and what is written before the markers of IPv4.
+// What a story shows, its file, its lines, and what is written.
 const STORIES: [(&str, &str, &str, &str); 9] = [
     ("no line", IPV4, "", END),
     (
@@ -134,44 +99,35 @@ const STORIES: [(&str, &str, &str, &str); 9] = [
         "a route that goes",
         IPV4,
         "announce route 10.0.0.0/24 next-hop 192.0.2.1\nwithdraw route 10.0.0.0/24\n",
-        "done\ndone\nupdate 0 last FFFFFFFFFFFFFFFFFFFFFFFFFFFFFFFF00170200000000\n",
+        "done\ndone\nupdate 0 last M00170200000000\n",
     ),
     (
         "a route of IPv6",
         IPV6,
         "announce route 2001:db8::/32 next-hop 2001:db8::1\n",
-        "done\nupdate 0 more FFFFFFFFFFFFFFFFFFFFFFFFFFFFFFFF\
-         004102\
-         0000002A\
-         40010100\
-         40020602010000FDE9\
+        "done\nupdate 0 more M0041020000002A4001010040020602010000FDE9\
          800E1A0002011020010DB8000000000000000000000001002020010DB8\n\
-         update 0 last FFFFFFFFFFFFFFFFFFFFFFFFFFFFFFFF001D0200000006800F03000201\n",
+         update 0 last M001D0200000006800F03000201\n",
     ),
     (
         "a path identifier that the session doesn't carry",
         IPV4,
         "announce route 10.0.0.0/24 next-hop 192.0.2.1 path-information 7\n",
-        "done\nupdate 0 last FFFFFFFFFFFFFFFFFFFFFFFFFFFFFFFF00170200000000\n",
+        "done\nupdate 0 last M00170200000000\n",
     ),
     (
         "one that it carries back alone",
         IPV4_PATH_BACK,
         "announce route 10.0.0.0/24 next-hop 192.0.2.1 path-information 7\n",
-        "done\nupdate 0 last FFFFFFFFFFFFFFFFFFFFFFFFFFFFFFFF00170200000000\n",
+        "done\nupdate 0 last M00170200000000\n",
     ),
     (
         "one that it carries",
         IPV4_PATH,
         "announce route 10.0.0.0/24 next-hop 192.0.2.1 path-information 7\n",
-        "done\nupdate 0 more FFFFFFFFFFFFFFFFFFFFFFFFFFFFFFFF\
-         003302\
-         00000014\
-         40010100\
-         40020602010000FDE9\
-         400304C0000201\
-         00000007180A0000\n\
-         update 0 last FFFFFFFFFFFFFFFFFFFFFFFFFFFFFFFF00170200000000\n",
+        "done\n\
+         update 0 more M003302000000144001010040020602010000FDE9400304C000020100000007180A0000\n\
+         update 0 last M00170200000000\n",
     ),
     (
         "a session that a line ends",
@@ -190,9 +146,10 @@ const STORIES: [(&str, &str, &str, &str); 9] = [
 #[test]
 fn the_messages_leave_what_the_lines_say(rt: HostRuntime) -> Result<(), Fail> {
     for (case, file, input, wanted) in STORIES {
-        let done = run(rt.alloc(), file, input, &SURE)?;
+        let done = run(rt.alloc(), file, input, ALL_WELL)?;
+        let text = written(rt.alloc(), wanted)?;
         assert_eq!(rt; done.status, Status::Ok, "{case}");
-        assert_eq!(rt; done.output.as_str(), wanted, "{case}");
+        assert_eq!(rt; done.output.as_str(), text.as_str(), "{case}");
     }
     Ok(())
 }
@@ -208,7 +165,7 @@ const LINES: [(&str, &str); 5] = [
     ),
     (
         "disable-ack\nannounce route 10.0.0.1/24 next-hop 192.0.2.1\nenable-ack\nfrob\n",
-        "done\nerror\n",
+        "done\ndone\nerror\n",
     ),
 ];
 
@@ -217,7 +174,7 @@ fn a_line_is_answered_and_leaves_the_other_routes(rt: HostRuntime) -> Result<(),
     for (lines, answers) in LINES {
         let input = joined(rt.alloc(), &[ROUTE, lines])?;
         let wanted = joined(rt.alloc(), &["done\n", answers, ROUTE_CUT])?;
-        let done = run(rt.alloc(), IPV4, input.as_str(), &SURE)?;
+        let done = run(rt.alloc(), IPV4, input.as_str(), ALL_WELL)?;
         assert_eq!(rt; done.status, Status::Ok, "{lines}");
         assert_eq!(rt; done.output.as_str(), wanted.as_str(), "{lines}");
     }
@@ -227,18 +184,11 @@ fn a_line_is_answered_and_leaves_the_other_routes(rt: HostRuntime) -> Result<(),
 #[test]
 fn each_neighbour_has_its_messages_in_the_order_of_the_slots(rt: HostRuntime) -> Result<(), Fail> {
     let input = "announce route 10.0.1.0/24 next-hop self\n";
-    let second = "update 1 more FFFFFFFFFFFFFFFFFFFFFFFFFFFFFFFF\
-         003002\
-         00000015\
-         40010100\
-         400200\
-         400304C0000209\
-         40050400000064\
-         180A0001\n\
-         update 1 more FFFFFFFFFFFFFFFFFFFFFFFFFFFFFFFF00170200000000\n\
-         update 1 last FFFFFFFFFFFFFFFFFFFFFFFFFFFFFFFF001D0200000006800F03000201\n";
+    let second = "update 1 more M0030020000001540010100400200400304C000020940050400000064180A0001\n\
+         update 1 more M00170200000000\n\
+         update 1 last M001D0200000006800F03000201\n";
     let wanted = joined(rt.alloc(), &["done\n", ROUTE_CUT, second])?;
-    let done = run(rt.alloc(), TWO, input, &SURE)?;
+    let done = run(rt.alloc(), PAIR, input, ALL_WELL)?;
     assert_eq!(rt; done.status, Status::Ok);
     assert_eq!(rt; done.output.as_str(), wanted.as_str());
     Ok(())
@@ -261,7 +211,7 @@ fn a_line_has_65_535_bytes_at_most(rt: HostRuntime) -> Result<(), Fail> {
     for (count, answer) in [(65_535, "done\n"), (65_536, "error\n")] {
         let input = long(rt.alloc(), count)?;
         let wanted = joined(rt.alloc(), &[answer, "done\n", ROUTE_CUT])?;
-        let done = run(rt.alloc(), IPV4, input.as_str(), &SURE)?;
+        let done = run(rt.alloc(), IPV4, input.as_str(), ALL_WELL)?;
         assert_eq!(rt; done.output.as_str(), wanted.as_str(), "{count}");
     }
     Ok(())
@@ -282,18 +232,18 @@ fn block(alloc: Global, count: u32) -> Result<String, Fail> {
 #[test]
 fn a_message_holds_as_many_prefixes_as_fit(rt: HostRuntime) -> Result<(), Fail> {
     let input = block(rt.alloc(), 1_014)?;
-    let done = run(rt.alloc(), IPV4, input.as_str(), &SURE)?;
+    let done = run(rt.alloc(), IPV4, input.as_str(), ALL_WELL)?;
     let output = done.output.as_str();
-    let first = "done\nupdate 0 more FFFFFFFFFFFFFFFFFFFFFFFFFFFFFFFF0FFF02";
+    let first = written(rt.alloc(), "done\nupdate 0 more M0FFF02")?;
     let rest = joined(
         rt.alloc(),
         &[
-            "180A03F4\nupdate 0 more FFFFFFFFFFFFFFFFFFFFFFFFFFFFFFFF",
+            "180A03F4\nupdate 0 more M",
             "002F02000000144001010040020602010000FDE9400304C0000201180A03F5\n",
             END,
         ],
     )?;
-    assert!(rt; output.starts_with(first));
+    assert!(rt; output.starts_with(first.as_str()));
     assert!(rt; output.ends_with(rest.as_str()));
     Ok(())
 }
@@ -308,7 +258,7 @@ fn more_replies_come_than_are_taken_at_once(rt: HostRuntime) -> Result<(), Fail>
             "show adj-rib out 10.3.0.0/18\nshow adj-rib out 10.3.0.0/16\nshow adj-rib out\n",
         ],
     )?;
-    let done = run(rt.alloc(), IPV4, input.as_str(), &SURE)?;
+    let done = run(rt.alloc(), IPV4, input.as_str(), ALL_WELL)?;
     let output = done.output.as_str();
     assert_eq!(rt;
         output
@@ -325,21 +275,21 @@ fn more_replies_come_than_are_taken_at_once(rt: HostRuntime) -> Result<(), Fail>
 #[test]
 fn a_fault_of_the_outside_ends_the_command(rt: HostRuntime) -> Result<(), Fail> {
     let input = joined(rt.alloc(), &[ROUTE, ROUTE])?;
-    let halves = Outside {
-        given: ROUTE.len(),
+    let halves = Calls {
         reads: &[1],
-        ..SURE
+        step: ROUTE.len(),
+        ..ALL_WELL
     };
-    let unread = run(rt.alloc(), IPV4, input.as_str(), &halves)?;
+    let unread = run(rt.alloc(), IPV4, input.as_str(), halves)?;
     assert_eq!(rt; unread.status, Status::ReadFault);
     assert_eq!(rt; unread.output.as_str(), "done\n");
     assert_eq!(rt; unread.reads_failed, 1);
-    let steps = Outside {
-        taken: 20,
+    let steps = Calls {
         writes: &[3],
-        ..SURE
+        step: 20,
+        ..ALL_WELL
     };
-    let unwritten = run(rt.alloc(), IPV4, input.as_str(), &steps)?;
+    let unwritten = run(rt.alloc(), IPV4, input.as_str(), steps)?;
     assert_eq!(rt; unwritten.status, Status::WriteFault);
     assert_eq!(rt;
         unwritten.output.as_str(),

@@ -1,4 +1,4 @@
-use Rattle.std.proofs.Common.{◌++◌, ◌≡◌, ◌<◌, length, arith, refl}
+use Rattle.std.proofs.Common.{◌++◌, arith, refl}
 use Rattle.std.proofs.lemmas.Result.{err_from_is_err_and}
 use Rattle.script_play.proofs.RaisedLemmas.{slots_all, slots_more, slots_none, slots_stopped}
 use Rattle.script_play.proofs.encoding.cut_all.Goals as goal

@@ -1,4 +1,4 @@
-use Rattle.std.proofs.Common.{◌∷◌, false, sym, ap, ◌∙◌}
+use Rattle.std.proofs.Common.{◌∷◌, sym, ap}
 use Rattle.book_history.specs.Entries.Entry.{MessageCut}
 use Rattle.text_history.specs.Plays.{is_message}
 use Rattle.script_play.proofs.RunLemmas.{made_once, no_message}

@@ -18,7 +18,8 @@ returns-in_err-cut_once g c =
     λ cfg H stands.
     let was = c.cuts.invariant cfg H stands in
     rw (e.1, e.2)
-    (cut_stopped _ cfg H _ c.cut_once.new.player c.cut_once.new.player _ _ _ _ was (c.in_err-cut_once.ensures cfg (was.run.added ++ H) was.run.stands))
+    (cut_stopped _ cfg H _ c.cut_once.new.player c.cut_once.new.player _ _ _ _ was
+    (c.in_err-cut_once.ensures cfg (was.run.added ++ H) was.run.stands))
 
 pub returns-then-not-branch : goal.returns-then-not-branch
 returns-then-not-branch g c = λ cfg H stands.

@@ -1,4 +1,4 @@
-use Rattle.std.proofs.Common.{◌≡◌, ◌≤◌, ◌∙◌, ap, length, arith}
+use Rattle.std.proofs.Common.{ap, length, arith}
 use Rattle.std.proofs.lemmas.List.{length-map}
 use Rattle.config_model.specs.declared.sections.Neighbor.{Neighbor}
 use Rattle.route_values.specs.declared.settings.Settings.{Settings}

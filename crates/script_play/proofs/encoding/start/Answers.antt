@@ -19,4 +19,5 @@ pub returns : goal.returns
 returns c = λ cfg neighbors stands are.
     let past = c.slots-test.false in
     let within = c.slots.auto.n-end in
-    raised_all cfg neighbors c.args.settings.now c.slots.n _ are (omega (arith, past, within)) (c.slots.invariant cfg neighbors stands are)
+    raised_all cfg neighbors c.args.settings.now c.slots.n _ are (omega (arith, past, within))
+    (c.slots.invariant cfg neighbors stands are)

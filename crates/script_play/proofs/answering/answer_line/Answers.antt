@@ -2,7 +2,7 @@ use Rattle.std.proofs.Common.{◌∷◌}
 use Rattle.text_forms.specs.LineTold.{line_told}
 use Rattle.book_history.specs.Entries.Entry.{LineEntered}
 use Rattle.script_play.proofs.RunLemmas.{in_time, line_answered, line_late}
-use Rattle.script_play.proofs.encoding.answer_line.Goals as goal
+use Rattle.script_play.proofs.answering.answer_line.Goals as goal
 
 pub returns-in-Ended : goal.returns-in-Ended
 returns-in-Ended g c = λ cfg H stands. line_late cfg H _ _ _ (c.in-Ended.ensures cfg H stands)

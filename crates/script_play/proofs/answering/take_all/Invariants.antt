@@ -3,7 +3,7 @@ use Rattle.config_model.specs.Sections.{Sections}
 use Rattle.book_history.specs.Entries.{History}
 use Rattle.script_play.specs.Player.{PlayerStands}
 use Rattle.script_play.proofs.RunLemmas.{TakenSoFar}
-use Rattle.script_play.proofs.encoding.take_all.Given as goal
+use Rattle.script_play.proofs.answering.take_all.Given as goal
 
 -- as many replies came each time as are taken at once
 abbrev pub invariant-takes : goal.invariant-takes

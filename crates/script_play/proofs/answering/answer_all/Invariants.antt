@@ -6,7 +6,7 @@ use Rattle.book_history.specs.Entries.{History}
 use Rattle.script_play.specs.Player.{PlayerStands}
 use Rattle.script_play.specs.Streams.{input_limit}
 use Rattle.script_play.proofs.InputLemmas.{InputSoFar}
-use Rattle.script_play.proofs.encoding.answer_all.Given as goal
+use Rattle.script_play.proofs.answering.answer_all.Given as goal
 
 -- what was read so far is answered, but for the line that isn't ended
 abbrev pub invariant-pieces : goal.invariant-pieces

@@ -2,7 +2,7 @@ use Rattle.std.proofs.Common.{◌∷◌, refl}
 use Rattle.book_history.specs.Entries.Entry.{RepliesTaken}
 use Rattle.script_play.proofs.AskedLemmas.{stands_behind}
 use Rattle.script_play.proofs.RunLemmas.{took_once}
-use Rattle.script_play.proofs.encoding.take_once.Goals as goal
+use Rattle.script_play.proofs.answering.take_once.Goals as goal
 
 pub returns : goal.returns
 returns g c = λ cfg H stands.

@@ -1,11 +1,11 @@
-use Rattle.std.proofs.Common.{◌<◌, ◌+◌, ◌++◌, ◌∙◌, ap, drop, length, take, refl, arith}
+use Rattle.std.proofs.Common.{◌<◌, ◌+◌, ◌++◌, ap, drop, length, take, refl, arith}
 use Rattle.std.proofs.lemmas.Result.{err_from_is_err_and}
 use Rattle.line_cutter.specs.Cutting.{standing}
 use Rattle.script_play.specs.Streams.{input_limit}
 use Rattle.script_play.proofs.InputLemmas.{input_ended, input_failed, input_full, input_long, input_more, input_none}
 use Rattle.script_play.proofs.InputLemmas.{input_stopped}
 use Rattle.script_play.proofs.StreamLemmas.{buffer_stays, got_few, got_length, got_piece, got_within}
-use Rattle.script_play.proofs.encoding.answer_all.Goals as goal
+use Rattle.script_play.proofs.answering.answer_all.Goals as goal
 
 pub pieces-init : goal.pieces-init
 pieces-init g c = record {

@@ -1,7 +1,7 @@
 use Rattle.std.proofs.Common.{length}
 use Rattle.outside.specs.Seen.{sink_seen}
 use Rattle.script_play.proofs.AnsweredLemmas.{AnsweredFront}
-use Rattle.script_play.proofs.encoding.answer_piece.Given as goal
+use Rattle.script_play.proofs.answering.answer_piece.Given as goal
 
 -- the lines that end in front of the rest were answered
 abbrev pub invariant-lines : goal.invariant-lines
