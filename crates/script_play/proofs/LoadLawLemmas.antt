@@ -32,7 +32,8 @@ use Rattle.book_history.specs.Slots.{slot}
 use Rattle.book_history.proofs.StepLemmas.{AreQuiet, commanded_quiet, legal_before}
 use Rattle.text_history.specs.Plays.{IsMessageOf}
 use Rattle.script_play.specs.LoadLaws.{IsLoadConfig, LeavesCounted, LoadsLeaveCounted}
-use Rattle.script_play.specs.Loads.{AddsReplied, AreCut, IsEntered, IsLoad, announce_line, begun, effects_in, evens_below}
+use Rattle.script_play.specs.Loads.{AddsReplied, AreCut, IsEntered, IsLoad, announce_line, begun, effects_in}
+use Rattle.script_play.specs.Loads.{evens_below}
 use Rattle.script_play.specs.Loads.{load_caps, load_settings, withdraw_line}
 use Rattle.script_play.proofs.CountingLemmas.{said_more}
 use Rattle.script_play.proofs.LoadingLemmas.{Says}

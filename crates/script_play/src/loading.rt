@@ -1,6 +1,5 @@
 //! A large input: many routes are announced, half of them are withdrawn, and what came of it is counted.
-ghost use Rattle.std.specs.Prelude.{◌≡◌, ◌+◌, ◌*◌, ◌<◌, ◌≤◌, ◌++◌, ℕ, [], IfOk, MatchResult};
-ghost use Rattle.std.specs.Prelude.{length};
+ghost use Rattle.std.specs.Prelude.{◌≡◌, ◌+◌, ◌*◌, ◌<◌, ◌≤◌, ◌++◌, ℕ, [], length, MatchResult};
 ghost use Rattle.outside.specs.Seen.{sink_seen};
 ghost use Rattle.arrayvec.specs.ArrayVec.{array_vec_len};
 ghost use Rattle.config_model.specs.Sections.{Sections};
@@ -9,8 +8,8 @@ ghost use Rattle.book_history.specs.Entries.{History};
 ghost use Rattle.book_core.specs.Stands.{Stands};
 ghost use Rattle.text_history.specs.Adding.{Adding};
 ghost use Rattle.script_play.specs.Loads.{AddsAnnounce, AddsWithdraw, AreCut, IsEntered};
-ghost use Rattle.script_play.specs.Loads.{announce_line};
-ghost use Rattle.script_play.specs.Loads.{load_caps, load_prefix, max_routes, withdraw_line};
+ghost use Rattle.script_play.specs.Loads.{announce_line, withdraw_line, load_caps, load_prefix};
+ghost use Rattle.script_play.specs.Loads.{max_routes};
 ghost use Rattle.script_play.specs.Loading.{Begins, Cuts, Enters, IsCounted, IsReplied, IsTold};
 ghost use Rattle.script_play.specs.Loading.{LoadBegan, Loads, Tells};
 ghost use Rattle.script_play.specs.Player.{max_message};
