@@ -459,4 +459,5 @@ play_spelled [] path named = let longer : 0 ≡ 2 = ap length named in absurd (o
 play_spelled (name ∷ []) path named = let longer : 1 ≡ 2 = ap length named in absurd (omega (arith, longer))
 play_spelled (name ∷ operand ∷ []) path named = (Play operand, cc)
 play_spelled (name ∷ operand ∷ other ∷ more) path named =
-    let longer : suc (suc (suc (length (map (λ w. w.now) more)))) ≡ 2 = ap length named in absurd (omega (arith, longer))
+    let longer : suc (suc (suc (length (map (λ w. w.now) more)))) ≡ 2 = ap length named in
+    absurd (omega (arith, longer))

@@ -9,3 +9,4 @@ pub mod PlayedLemmas
 pub mod LineLemmas
 pub mod PieceLemmas
 pub mod StreamLemmas
+pub mod EnterLemmas

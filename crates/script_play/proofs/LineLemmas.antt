@@ -1,10 +1,10 @@
 -- One line of a script, and the event that it says.
-use Rattle.std.proofs.Common.{ℕ, ◌≡◌, true, false, List, [], ◌∷◌, ◌++◌, Option, Some, Result, Ok, Err, IsTrue, ap, sym}
-use Rattle.std.proofs.Common.{◌∙◌, refl, subst, not, cond, Bool, None, nat_lt, length}
+use Rattle.std.proofs.Common.{ℕ, ◌≡◌, true, false, List, [], Option, Some, Result, Ok, Err, ap, sym}
+use Rattle.std.proofs.Common.{refl, subst, not, cond, Bool, None, nat_lt, length}
 use Rattle.outside.specs.Seen.{SinkSeen}
 use Rattle.config_model.specs.Sections.{Sections}
 use Rattle.book_history.specs.Entries.{History}
-use Rattle.script_grammar.specs.Events.{Event, Bad, PassedOver, Says, ScriptLine}
+use Rattle.script_grammar.specs.Events.{Event, Bad, PassedOver, Says}
 use Rattle.script_grammar.specs.Laws.{EventsHaveSlots, HasSlot}
 use Rattle.script_grammar.specs.Reading.{event_in, is_passed_over, max_script_line, said_or_bad, script_line}
 use Rattle.text_history.specs.Plays.{is_known}

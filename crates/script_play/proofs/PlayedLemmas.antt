@@ -1,7 +1,7 @@
 -- Bytes that are played line by line, as they come in pieces.
 use Rattle.std.proofs.Common.{ℕ, ◌≡◌, ◌+◌, ◌<◌, true, List, [], ◌∷◌, ◌++◌, length, Option, Some, None, Result, Ok, Err}
 use Rattle.std.proofs.Common.{ap, sym, ◌∙◌, refl, subst, append_assoc, append-nil, arith}
-use Rattle.std.specs.List.{flat_map, AllByRecursion}
+use Rattle.std.specs.List.{flat_map}
 use Rattle.std.proofs.lemmas.List.{length-append}
 use Rattle.std.proofs.lemmas.List.Concat.{flat_map-append}
 use Rattle.outside.specs.Seen.{SinkSeen}
@@ -17,13 +17,12 @@ use Rattle.script_grammar.specs.Reading.{max_script_line, script_line}
 use Rattle.script_grammar.specs.Scripts.{script_lines}
 use Rattle.text_history.specs.Adding.{Adding}
 use Rattle.text_history.specs.Laws.{ScriptsGoOn}
-use Rattle.text_history.specs.Plays.{AddsLine, AddsSaid, IsPlay, IsPlayPart, IsRefusedAt, is_no_line}
+use Rattle.text_history.specs.Plays.{AddsLine, AddsSaid, IsPlayPart, IsRefusedAt, is_no_line}
 use Rattle.script_play.specs.declared.halt.Halt.{Halt}
 use Rattle.script_play.specs.declared.halt.Halt.TheVariants as halt
 use Rattle.script_play.specs.declared.player.Player.{Player}
-use Rattle.script_play.specs.Player.{PlayerStands}
-use Rattle.script_play.specs.Streams.{ArePlayed, CameTo, Finishes, GoesOn, HasNoFeed, LeavesLine, LinePlayed}
-use Rattle.script_play.specs.Streams.{LineStopped, PlayedAll, PlaysLine, RefusedBy, StayPart, StayRefused, StoppedIn}
+use Rattle.script_play.specs.Streams.{ArePlayed, CameTo, Finishes, GoesOn, HasNoFeed, LeavesLine}
+use Rattle.script_play.specs.Streams.{LineStopped, PlaysLine, RefusedBy, StayPart, StayRefused, StoppedIn}
 use Rattle.script_play.specs.Streams.{ended}
 use Rattle.script_play.specs.Writing.{Stops}
 use Rattle.script_play.proofs.ScriptLemmas.{lines_all, lines_ended, lines_front, lines_further, lines_last, too_long}
@@ -248,17 +247,19 @@ ended_leaves content cfg go_on follow bytes held part number was player opened f
 
 -- what playing a line leaves that a part and its line feed end
 pub ended_plays : (content : Option (List ℕ → List ℕ)) (cfg : Sections) → ScriptsGoOn → TextsFollow
-    → (bytes held part line : List ℕ) (number : ℕ) (was player : Player) (opened files files' : ℕ)
+    → (bytes held part whole line : List ℕ) (number : ℕ) (was player : Player) (opened files files' : ℕ)
     (start sink sink' : SinkSeen) (result : Result (Unit {0}) Halt)
-    → CameTo content cfg bytes held number was opened files start sink → HasNoFeed part → line ≡ held ++ part
+    → CameTo content cfg bytes held number was opened files start sink → HasNoFeed part → line ≡ whole
+    → whole ≡ held ++ part
     → PlaysLine content (number + 1) (script_line line) was player files files' sink sink' result
     → GoesOn content cfg (bytes ++ ended part) [] (number + 1) player opened files' start sink' result
-ended_plays content cfg go_on follow bytes held part line number was player opened files files' start sink sink' result
-    came no_feed line_is plays =
+ended_plays content cfg go_on follow bytes held part whole line number was player opened files files' start sink sink'
+    result
+    came no_feed line_is whole_is plays =
     ended_leaves content cfg go_on follow bytes held part number was player opened files files' start sink sink' result
     came no_feed
-    (subst (λ (whole : List ℕ). LeavesLine content cfg came.history (number + 1) (script_line whole) player files
-    files' sink sink' result) line_is (plays cfg came.history came.stands))
+    (subst (λ (all : List ℕ). LeavesLine content cfg came.history (number + 1) (script_line all) player files
+    files' sink sink' result) (line_is ∙ whole_is) (plays cfg came.history came.stands))
 
 -- there was no memory for more of a line
 pub lost_piece : (content : Option (List ℕ → List ℕ)) (cfg : Sections) (bytes held piece last : List ℕ)

@@ -1,5 +1,5 @@
 -- A script that is read piece by piece and played as it comes.
-use Rattle.std.proofs.Common.{ℕ, ◌≡◌, ◌⊎◌, ◌+◌, ◌<◌, ◌≤◌, List, [], ◌++◌, length, Option, Some, None, Result, Ok, Err}
+use Rattle.std.proofs.Common.{ℕ, ◌≡◌, ◌+◌, ◌<◌, ◌≤◌, List, [], ◌++◌, length, Option, Some, None, Result, Ok, Err}
 use Rattle.std.proofs.Common.{ap, sym, ◌∙◌, refl, subst, arith, append-nil, true, inl, inr}
 use Rattle.std.proofs.Common.{◌-◌, min, take, drop, length-append, length-drop, length-take}
 use Rattle.std.proofs.lemmas.List.{take-append-le}
@@ -13,8 +13,8 @@ use Rattle.script_play.specs.declared.halt.Halt.TheVariants as halt
 use Rattle.script_play.specs.declared.player.Player.{Player}
 use Rattle.script_play.specs.declared.status.Status.TheVariants as status
 use Rattle.script_play.specs.Player.{PlayerStands}
-use Rattle.script_play.specs.Streams.{ArePlayed, CameTo, Finishes, GoesOn, PlayedAtMost, PlayedPart, PlayedSoFar}
-use Rattle.script_play.specs.Streams.{PlayedToLimit, PlayedToLine, Plays, PlaysLast, PlaysPiece, ReadPart, ReadWhole}
+use Rattle.script_play.specs.Streams.{ArePlayed, CameTo, Finishes, GoesOn, PlayedPart}
+use Rattle.script_play.specs.Streams.{PlayedToLine, Plays, PlaysLast, PlaysPiece, ReadPart, ReadWhole}
 use Rattle.script_play.specs.Streams.{RefusedBy, StayPart, StayRefused, StoppedIn}
 use Rattle.script_play.specs.Streams.{input_limit, part, read_limit, status_by, unopened}
 use Rattle.script_play.proofs.PieceLemmas.{piece_of}

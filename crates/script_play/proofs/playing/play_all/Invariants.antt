@@ -1,4 +1,4 @@
-use Rattle.std.proofs.Common.{◌≡◌, ◌≤◌, ◌^◌, ◌-◌, length}
+use Rattle.std.proofs.Common.{◌≡◌, ◌≤◌, ◌-◌, length}
 use Rattle.outside.specs.Lent.{LendsNone}
 use Rattle.outside.specs.Seen.{sink_seen, source_seen}
 use Rattle.script_play.specs.Streams.{input_limit}

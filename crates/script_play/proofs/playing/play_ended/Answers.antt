@@ -1,4 +1,4 @@
-use Rattle.std.proofs.Common.{◌∙◌, ◌+◌, ◌++◌, List, ℕ, Ok, Err, subst, sym}
+use Rattle.std.proofs.Common.{◌+◌, ◌++◌, List, ℕ, Ok, Err, subst, sym}
 use Rattle.std.proofs.lemmas.Result.{err_from_is_err_and}
 use Rattle.outside.specs.Seen.{sink_seen}
 use Rattle.answer_texts.specs.Shown.{shown}
@@ -22,11 +22,12 @@ returns-in_err-play_line-clause-plays g c =
     λ cfg bytes opened start came.
     rw (e.1, e.2)
     (ended_plays (g.F.Files.content c.args.files.now) cfg c.histories_go_on.ensures.scripts
-    (c.texts_follow.ensures shown) bytes c.args.place.now.held.items c.args.part.now c.deref.result.now
+    (c.texts_follow.ensures shown) bytes c.args.place.now.held.items c.args.part.now
+    c.extend_from_slice.new.self.items c.deref.result.now
     c.args.place.now.number c.args.player.now c.play_line.new.player opened (g.F.Files.faults c.args.files.now)
     (g.F.Files.faults c.play_line.new.files) start (sink_seen g.K.Sink.taken g.K.Sink.faults c.args.output.now)
     (sink_seen g.K.Sink.taken g.K.Sink.faults c.play_line.new.output) (Err _)
-    came c.requires.no_feed (c.deref.ensures.value ∙ c.in_ok-extend_from_slice.ensures.items)
+    came c.requires.no_feed c.deref.ensures.value c.in_ok-extend_from_slice.ensures.items
     c.in_err-play_line.ensures.plays)
 
 pub returns-clause-plays : goal.returns-clause-plays
@@ -40,8 +41,9 @@ returns-clause-plays g c =
     (c.args.place.now.number + 1) c.play_line.new.player opened files' start sink')
     (sym c.clear.ensures.items)
     (ended_plays content cfg c.histories_go_on.ensures.scripts
-    (c.texts_follow.ensures shown) bytes c.args.place.now.held.items c.args.part.now c.deref.result.now
+    (c.texts_follow.ensures shown) bytes c.args.place.now.held.items c.args.part.now
+    c.extend_from_slice.new.self.items c.deref.result.now
     c.args.place.now.number c.args.player.now c.play_line.new.player opened (g.F.Files.faults c.args.files.now)
     files' start sink sink' (Ok tt)
-    came c.requires.no_feed (c.deref.ensures.value ∙ c.in_ok-extend_from_slice.ensures.items)
+    came c.requires.no_feed c.deref.ensures.value c.in_ok-extend_from_slice.ensures.items
     c.in_ok-play_line.ensures.plays)

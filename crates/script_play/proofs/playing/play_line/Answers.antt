@@ -1,4 +1,4 @@
-use Rattle.std.proofs.Common.{◌∙◌, sym}
+use Rattle.std.proofs.Common.{sym}
 use Rattle.script_grammar.specs.Events.{event_told}
 use Rattle.script_play.proofs.LineLemmas.{event_slot}
 use Rattle.script_play.proofs.playing.play_line.Goals as goal

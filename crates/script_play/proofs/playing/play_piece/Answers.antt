@@ -1,4 +1,4 @@
-use Rattle.std.proofs.Common.{arith, sym, Err, ◌∙◌, List, ℕ}
+use Rattle.std.proofs.Common.{arith, ◌∙◌, List, ℕ}
 use Rattle.std.proofs.lemmas.Result.{err_from_is_err_and}
 use Rattle.outside.specs.Seen.{sink_seen}
 use Rattle.text_forms.proofs.CutLemmas.{lacks_from_all}
