@@ -1,6 +1,6 @@
 -- What `play` shows of its devices, by how it ended.
 use Rattle.std.proofs.Common.{ℕ, ◌≡◌, ◌⊎◌, List, [], ◌∷◌, ◌++◌, length, Option, Some, None, refl, sym, ◌∙◌, ap, subst}
-use Rattle.std.proofs.Common.{inl, inr, arith, append-nil, length-append, codes, get_or, map, ◌+◌}
+use Rattle.std.proofs.Common.{inl, inr, arith, append-nil, length-append, codes, get_or, map, suc}
 use Rattle.std.specs.Borrow.{Bor}
 use Rattle.outside.specs.Seen.{SourceSeen, SinkSeen}
 use Rattle.outside.specs.Told.{AreLeft, CountsOne, Grows, Shrinks}
@@ -459,4 +459,5 @@ play_spelled [] path named = let longer : 0 ≡ 2 = ap length named in absurd (o
 play_spelled (name ∷ []) path named = let longer : 1 ≡ 2 = ap length named in absurd (omega (arith, longer))
 play_spelled (name ∷ operand ∷ []) path named = (Play operand, cc)
 play_spelled (name ∷ operand ∷ other ∷ more) path named =
-    let longer : length (map (λ w. w.now) more) + 3 ≡ 2 = ap length named in absurd (omega (arith, longer))
+    let longer : suc (suc (suc (length (map (λ w. w.now) more)))) ≡ 2 = ap length named in
+    absurd (omega (arith, longer))

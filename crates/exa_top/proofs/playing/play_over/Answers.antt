@@ -2,12 +2,6 @@ use Rattle.std.proofs.Common.{Err, ap, refl}
 use Rattle.exa_top.proofs.PlayedLemmas.{played_over, unplayed}
 use Rattle.exa_top.proofs.playing.play_over.Goals as goal
 
-pub configured-requires-clause-never : goal.configured-requires-clause-never
-configured-requires-clause-never g c κs within = ?
-
-pub play-requires-clause-never : goal.play-requires-clause-never
-play-requires-clause-never g c κs within = ?
-
 pub returns-in-Ok-clause-plays : goal.returns-in-Ok-clause-plays
 returns-in-Ok-clause-plays g c =
     played_over (g.F.Files.content c.args.files.now) _ _ _ _ _ _ _ _ _ _ c.in-Ok.config _ (refl, refl)
