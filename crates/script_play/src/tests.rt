@@ -9,6 +9,7 @@ use std::test::Fail;
 mod encoding;
 mod loading;
 mod playing;
+mod refreshing;
 mod reloads;
 mod stopping;
 
