@@ -15,3 +15,4 @@ pub mod PlayedLemmas
 pub mod LineLemmas
 pub mod PieceLemmas
 pub mod StreamLemmas
+pub mod EnterLemmas

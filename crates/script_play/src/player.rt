@@ -1,12 +1,12 @@
 //! A book to which the events of a script happen.
-ghost use Rattle.std.specs.Prelude.{◌≡◌, [], IfOk, IsTrue};
+ghost use Rattle.std.specs.Prelude.{◌≡◌, ℕ, List, [], Option, IfOk, IsTrue};
 ghost use Rattle.outside.specs.Lent.{LendsNone};
 ghost use Rattle.outside.specs.Seen.{sink_seen};
 ghost use Rattle.attr_codec.specs.Buffer.{max_message};
 ghost use Rattle.config_model.specs.Sections.{Sections};
 ghost use Rattle.book_history.specs.Entries.{History};
 ghost use Rattle.book_core.specs.Stands.{Stands};
-ghost use Rattle.script_grammar.specs.Events.{event_told};
+ghost use Rattle.script_grammar.specs.Events.{Reload, event_told};
 ghost use Rattle.script_grammar.specs.Laws.{HasSlot};
 ghost use Rattle.text_history.specs.Plays.{is_known};
 ghost use Rattle.script_play.specs.Entering.{Enters, PutsAsked};
@@ -93,15 +93,41 @@ impl Player {
     {
         match event {
             Event::Drain { n } => self.drain(*n, output),
-            Event::Reload { path } => {
-                self.reload(files, path)?;
-                write(output, &self.text)
-            }
-            event => {
-                self.ask(event)?;
-                write(output, &self.text)
-            }
+            Event::Reload { path } => self.enter_reload(files, path, output),
+            _ => self.enter_one(event, output),
         }
+    }
+
+    // Enters the reload by a file, and writes what became of it.
+    fn enter_reload<F: Files, K: Sink>(
+        &mut self,
+        files: &mut F,
+        path: &str,
+        output: &mut K,
+    ) -> Result<(), Halt>
+        ensures entered { (cfg : Sections) (H : History) → PlayerStands cfg H self.old
+            → Enters (F.content files.old) cfg H (Reload path.now) self.new
+            (F.faults files.old) (F.faults files.new) (sink_seen K.taken K.faults output.old)
+            (sink_seen K.taken K.faults output.new) result }
+        ensures content { F.content files.new ≡ F.content files.old }
+        ensures back { LendsNone (F.lent files.old) (F.lent files.new) }
+    {
+        self.reload(files, path)?;
+        write(output, &self.text)
+    }
+
+    // Enters an event that is one call of the book alone, and writes what it is answered.
+    fn enter_one<K: Sink>(&mut self, event: &Event<'_>, output: &mut K) -> Result<(), Halt>
+        requires slot { HasSlot (event_told event.now) }
+        requires known { (cfg : Sections) (H : History) → PlayerStands cfg H self.old
+            → IsTrue (is_known H (event_told event.now)) }
+        ensures { (content : Option (List ℕ → List ℕ)) (files : ℕ) (cfg : Sections) (H : History)
+            → PlayerStands cfg H self.old → Enters content cfg H (event_told event.now) self.new
+            files files (sink_seen K.taken K.faults output.old)
+            (sink_seen K.taken K.faults output.new) result }
+    {
+        self.ask(event)?;
+        write(output, &self.text)
     }
 
     // Enters an event that is one call of the book alone.
