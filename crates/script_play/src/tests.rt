@@ -8,6 +8,7 @@ use std::test::Fail;
 
 mod encoding;
 mod playing;
+mod refreshing;
 mod reloads;
 mod stopping;
 
