@@ -7,7 +7,8 @@ use Rattle.config_model.specs.Sections.{Sections}
 use Rattle.book_history.specs.Entries.{History}
 use Rattle.answer_texts.specs.Shown.{all_of, encoded}
 use Rattle.text_history.specs.Adding.{Adding}
-use Rattle.text_history.specs.Encodes.{AddsCuts, numbered}
+use Rattle.text_history.specs.Encodes.{AddsCuts, IsEncode, numbered}
+use Rattle.text_history.specs.Leaving.{EncodingsLeaveTables}
 use Rattle.script_play.specs.declared.halt.Halt.{Halt}
 use Rattle.script_play.specs.declared.halt.Halt.TheVariants as halt
 use Rattle.script_play.specs.declared.player.Player.{Player}
@@ -106,27 +107,28 @@ module _ (cfg : Sections) (source source' : SourceSeen) (sink sink' : SinkSeen) 
   lines_stopped opened player (halt.Script line) started answers = absurd (answers started.raised started.stands).1
 
 -- all lines were answered, and then messages cut
-module _ (cfg : Sections) (source source' : SourceSeen) (sink mid sink' : SinkSeen) where
+module _ (law : EncodingsLeaveTables) (cfg : Sections) (source source' : SourceSeen) (sink mid sink' : SinkSeen) where
   cut_whole : (opened between player : Player) (started : Started cfg cfg.neighbors opened)
       (was : AnsweredWhole cfg started.raised between source source' sink mid)
       → Added (AddedBy AddsCuts (was.answered.added ++ started.raised) (numbered 0 cfg.neighbors)) cfg
       (was.answered.added ++ started.raised) player mid sink' → EncodedWhole cfg source source' sink sink'
   cut_whole opened between player started was cuts =
       let answered : History = was.answered.added ++ started.raised in
+      let encodes : IsEncode cfg was.bytes (cuts.added ++ answered) = record {
+        started = started.started;
+        raised = started.raised;
+        answered = answered;
+        ups = started.ups;
+        answers = was.answered.adds;
+        cuts = cuts.adds;
+      } in
       record {
         bytes = was.bytes;
         read = was.read;
         history = cuts.added ++ answered;
-        encodes =
-            record {
-              started = started.started;
-              raised = started.raised;
-              answered = answered;
-              ups = started.ups;
-              answers = was.answered.adds;
-              cuts = cuts.adds;
-            };
+        encodes = encodes;
         legal = cuts.stands.book.held.legal;
+        served = law cfg was.bytes (cuts.added ++ answered) encodes cuts.stands.book.held.legal;
         wrote =
             subst (λ (text : List ℕ). Wrote text sink sink') (sym (all_both encoded cuts.added answered))
             (wrote_both (all_of encoded answered) (all_of encoded cuts.added) sink mid sink'

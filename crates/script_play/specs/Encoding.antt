@@ -1,5 +1,6 @@
 -- What calls leave that encode a helper's lines as they come: how far they came, what they wrote, and how they stopped.
 use Rattle.std.specs.Prelude.{ℕ, ◌≡◌, ◌⊎◌, ◌<◌, ◌≤◌, Bool, List, [], ◌∷◌, ◌++◌, length, map, Result, Ok, Err}
+use Rattle.std.specs.Prelude.{slice_get, Some}
 use Rattle.outside.specs.Seen.{SinkSeen, SourceSeen}
 use Rattle.outside.specs.Told.{CountsOne, Grows}
 use Rattle.route_values.specs.declared.settings.Settings.{Settings}
@@ -22,6 +23,7 @@ use Rattle.answer_texts.specs.Shown.{all_of, encoded}
 use Rattle.text_history.specs.Adding.{Adding}
 use Rattle.text_history.specs.Encodes.{AddsAnswer, AddsUp, IsEncode, IsEncodePart, caps_sent, is_full}
 use Rattle.text_history.specs.Encodes.{numbered}
+use Rattle.text_history.specs.Leaving.{IsServed}
 use Rattle.text_history.specs.Plays.{is_message}
 use Rattle.script_play.specs.declared.status.Status.{Status}
 use Rattle.script_play.specs.declared.status.Status.TheVariants as status
@@ -223,13 +225,16 @@ AnswersSource cfg H player source source' sink sink' (Err halt.Long) =
 AnswersSource cfg H player source source' sink sink' (Err halted) =
     AnsweredPart cfg H source source' sink sink' × StopsWriting sink sink' halted
 
--- a whole input was encoded, and its whole output written
+-- A whole input was encoded, and its whole output written. The messages leave at each neighbour the table that the
+-- lines leave.
 pub record EncodedWhole (cfg : Sections) (source source' : SourceSeen) (sink sink' : SinkSeen) : Type 0 where
   pub bytes : List ℕ
   pub read : ReadWhole source source' bytes
   pub history : History
   pub encodes : IsEncode cfg bytes history
   pub legal : IsLegal cfg history
+  pub served : (n : ℕ) (neighbor : Neighbor) → slice_get cfg.neighbors n ≡ Some neighbor
+      → IsServed cfg encodes.answered history n (caps_sent neighbor.settings)
   pub wrote : Wrote (all_of encoded history) sink sink'
 
 -- the history of an input up to some lines

@@ -27,14 +27,15 @@ use line_cutter::LineCutter;
 use outside::{Sink, Source};
 use route_values::{Caps, Family, Settings};
 use std::alloc::Global;
+use text_history::encodings_leave_tables;
 
 /// Encodes a helper's lines over a newly opened book: starts helper 0, brings each neighbour's session up, and answers
 /// the lines of the input. At its end the messages are cut that the lines leave, for one neighbour after the other.
 ///
 /// Each session carries the families of its neighbour's settings, with path identifiers where these send them. What the
 /// lines are answered is written as the helper reads it, and each message as a script prints it: before more is read.
-/// What no line feed ends is no line. With another status than `Ok` the output is a front part of one that belongs to
-/// what was read.
+/// What no line feed ends is no line. With `Ok` each neighbour's messages leave just the table that the lines leave at
+/// it. With another status the output is a front part of one that belongs to what was read.
 pub fn encode<S: Source, K: Sink>(
     alloc: Global,
     config: Config,
@@ -98,6 +99,8 @@ fn encode_with<S: Source, K: Sink>(
         (sink_seen K.taken K.faults output.old) (sink_seen K.taken K.faults output.new)
         (status_by result) }
 {
+    // For the proof: what the messages leave.
+    encodings_leave_tables();
     start(player, settings);
     answer_all(player, cutter, input, output)?;
     cut_all(player, settings.len(), output)

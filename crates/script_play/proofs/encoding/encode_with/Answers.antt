@@ -16,7 +16,8 @@ returns-in_err-answer_all g c =
 
 pub returns : goal.returns
 returns g c = λ cfg stands are.
-    lines_and_cuts cfg _ _ _ _ _ c.start.new.player c.answer_all.new.player c.cut_all.new.player c.cut_all.result
+    lines_and_cuts c.encodings_leave_tables.ensures cfg _ _ _ _ _
+    c.start.new.player c.answer_all.new.player c.cut_all.new.player c.cut_all.result
     (c.start.ensures cfg cfg.neighbors stands are) (λ H. c.in_ok-answer_all.ensures cfg H)
     (λ H stood. c.cut_all.ensures cfg H cfg.neighbors stood
     (sym (ap (length {A = Settings}) are ∙ length-map cfg.neighbors (λ (one : Neighbor). one.settings))))
