@@ -1,3 +1,15 @@
+pub mod KnownLemmas
+pub mod AskedLemmas
+pub mod UnreadLemmas
+pub mod DrainLemmas
+pub mod ReloadLemmas
+pub mod LentLemmas
+pub mod ScriptLemmas
+pub mod PlayedLemmas
+pub mod LineLemmas
+pub mod PieceLemmas
+pub mod StreamLemmas
+pub mod EnterLemmas
 pub mod StandingLemmas
 pub mod CountingLemmas
 pub mod LoadingLemmas

@@ -5,16 +5,13 @@ use Rattle.std.proofs.Common.{refl, sym, ap, ◌∙◌, subst, arith, append_ass
 use Rattle.std.specs.Prelude.{Result, IfOk, IsErr, MatchResult, OnOk, if◌then◌else◌}
 use Rattle.std.specs.List.{AllByRecursion}
 use Rattle.text_forms.specs.Lines.{Line, Text}
-use Rattle.attr_codec.specs.Buffer.{Buffer}
 use Rattle.outside.specs.Seen.{SinkSeen}
 use Rattle.outside.specs.Told.{Grows}
-use Rattle.update_grammar.specs.Packed.{room}
 use Rattle.route_grammar.specs.declared.fault.ReadFault.{ReadFault}
 use Rattle.command_grammar.specs.declared.command.Command.{Command}
 use Rattle.command_grammar.specs.declared.command.Command.TheVariants as command
 use Rattle.config_model.specs.Sections.{Sections}
 use Rattle.book_core.specs.Seen.{Seen as Book}
-use Rattle.book_core.specs.Ready.{TakesCuts}
 use Rattle.book_core.specs.Stands.{Stands}
 use Rattle.book_history.specs.declared.outcomes.Cut.{Cut}
 use Rattle.book_history.specs.declared.outcomes.Cut.TheVariants as cut
@@ -38,7 +35,6 @@ use Rattle.script_play.specs.Loads.{counts_of, counts_text, evens_below, withdra
 use Rattle.script_play.specs.Loading.{Began, Begins, Cuts, EntersAll, EnteredAll, IsCounted, IsCut, IsCutAlone}
 use Rattle.script_play.specs.Loading.{IsReplied}
 use Rattle.script_play.specs.Loading.{IsTold, LoadBegan, Loads, Tallies, Tells}
-use Rattle.script_play.specs.Player.{max_message}
 
 -- ---- numbers
 
@@ -446,16 +442,6 @@ line_entered cfg H text line reading given taken book at tally (Err because) is 
   stands = subst (λ (l : Line). Stands cfg (RepliesTaken 0 1 taken ∷ LineEntered 0 1 l reading given ∷ H) book) is
       stands;
 }
-
--- the buffer takes every message of a session
-pub room_for_cuts : (book : Book) (n : ℕ) (message : Buffer) → message.room ≡ max_message
-    → TakesCuts book n message.room
-room_for_cuts book n message is = λ peering caps at up.
-    subst (λ size. room caps ≤ size) (sym is) (by_size caps.extended)
-  where
-    by_size : (extended : Bool) → (if extended then 65535 else 4096) ≤ max_message
-    by_size true = omega arith
-    by_size false = omega arith
 
 -- a message was cut
 pub message_alone : (cfg : Sections) (H : History) (bytes out : List ℕ) (given : Cut) (last : Bool) (book : Book)

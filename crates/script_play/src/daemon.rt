@@ -1,10 +1,12 @@
 //! Events of the daemon as a whole.
 ghost use Rattle.std.specs.Prelude.{◌≡◌};
 ghost use Rattle.outside.specs.Lent.{LendsNone};
-ghost use Rattle.script_grammar.specs.Events.{Control};
+ghost use Rattle.book_history.specs.Entries.Entry.{ReloadRefused};
+ghost use Rattle.script_grammar.specs.Events as events;
 ghost use Rattle.script_play.specs.Entering.{PutsAsked, PutsReload};
+ghost use Rattle.script_play.specs.Reloading.{IsLoaded, PutsEntry};
 
-use crate::configured::configured;
+use crate::config_file::configured;
 use crate::halt::Halt;
 use crate::player::Player;
 use crate::status::Status;
@@ -23,7 +25,7 @@ const TEXT_SLOTS: Slots = Slots {
 impl Player {
     // What the daemon is to do.
     pub(crate) fn control(&mut self) -> Result<(), NoMemory>
-        ensures { PutsAsked self.old self.new Control result }
+        ensures { PutsAsked self.old self.new events.Control result }
     {
         let given = self.book.control();
         self.text.clear();
@@ -41,17 +43,24 @@ impl Player {
             Ok(config) => Ok(self.load(config)?),
             Err(Status::ConfigRefused(fault)) => Ok(self.refuse(NotRead::Refused(fault))?),
             Err(Status::ConfigRead) => Err(Halt::File),
-            Err(_) => Ok(self.refuse(NotRead::NoMemory)?),
+            Err(Status::NoMemory) => Ok(self.refuse(NotRead::NoMemory)?),
+            Err(_) => unreachable!(),
         }
     }
 
-    fn load(&mut self, config: Config) -> Result<(), NoMemory> {
+    // The file gave this configuration.
+    fn load(&mut self, config: Config) -> Result<(), NoMemory>
+        ensures { PutsEntry (IsLoaded config) self.old self.new result }
+    {
         let given = self.book.reload(config);
         self.text.clear();
         put_reload(&mut self.text, given)
     }
 
-    fn refuse(&mut self, why: NotRead) -> Result<(), NoMemory> {
+    // The file gave no configuration, for this reason.
+    fn refuse(&mut self, why: NotRead) -> Result<(), NoMemory>
+        ensures { PutsEntry (λ entry. entry ≡ ReloadRefused why) self.old self.new result }
+    {
         self.book.reload_refused(why);
         self.text.clear();
         put_not_read(&mut self.text, why)

@@ -6,6 +6,7 @@ ghost use Rattle.config_model.specs.Sections.{Sections};
 ghost use Rattle.book_history.specs.Entries.{History};
 ghost use Rattle.script_grammar.specs.Events.{Drain};
 ghost use Rattle.text_history.specs.Plays.{is_message};
+ghost use Rattle.script_play.specs.Draining.{WritesCut};
 ghost use Rattle.script_play.specs.Entering.{Enters};
 ghost use Rattle.script_play.specs.Player.{PlayerStands};
 
@@ -25,14 +26,25 @@ impl Player {
             (sink_seen K.taken K.faults output.old) (sink_seen K.taken K.faults output.new) result }
     {
         'cuts: for _ in 0..u64::MAX {
-            let given = self.cut_next(n);
-            self.put_cut(n, given)?;
-            write(output, &self.text)?;
+            let given = self.write_cut(n, output)?;
             if !is_message(given) {
                 return Ok(());
             }
         }
         Err(Halt::Memory)
+    }
+
+    // Makes the next message of a slot, and writes what is printed of it.
+    fn write_cut<K: Sink>(&mut self, n: usize, output: &mut K) -> Result<Cut, Halt>
+        requires { n < max_peers }
+        ensures { (files : ℕ) (cfg : Sections) (H : History) → PlayerStands cfg H self.old
+            → WritesCut cfg H n self.new files (sink_seen K.taken K.faults output.old)
+            (sink_seen K.taken K.faults output.new) result }
+    {
+        let given = self.cut_next(n);
+        self.put_cut(n, given)?;
+        write(output, &self.text)?;
+        Ok(given)
     }
 }
 

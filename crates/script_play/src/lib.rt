@@ -7,7 +7,8 @@
 //! child, and opens no session.
 #![tactic(auto)]
 
-mod configured;
+mod buffer;
+mod config_file;
 mod counting;
 mod daemon;
 mod draining;
@@ -23,6 +24,7 @@ mod standing;
 mod status;
 mod writing;
 
+pub use config_file::configured;
 pub use load_law::loads_leave_counted;
 pub use loading::{MAX_LOAD, load};
 pub use playing::play;

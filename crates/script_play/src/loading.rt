@@ -12,15 +12,13 @@ ghost use Rattle.script_play.specs.Loads.{announce_line, withdraw_line, load_cap
 ghost use Rattle.script_play.specs.Loads.{max_routes};
 ghost use Rattle.script_play.specs.Loading.{Begins, Cuts, EntersAll, IsCounted, IsReplied, IsTold};
 ghost use Rattle.script_play.specs.Loading.{LoadBegan, Loads, Tells};
-ghost use Rattle.script_play.specs.Player.{max_message};
 
+use crate::buffer::Buffer;
 use crate::counting::Tally;
-use crate::player::MAX_MESSAGE;
 use crate::status::Status;
 use crate::writing::write;
 use answers::NoMemory;
 use arrayvec::ArrayVec;
-use attr_codec::Message;
 use book_core::{Book, Cut, Spawn, Take};
 use command_grammar::ReadLine;
 use outside::Sink;
@@ -260,9 +258,9 @@ fn drain(alloc: Global, book: &mut Book, tally: &mut Tally) -> Result<(), NoMemo
     ensures { (cfg : Sections) (H : History) → IsCounted cfg H book.old tally.old
         → EntersAll AreCut cfg H book.new tally.new result }
 {
-    let mut message = Message::new(alloc, MAX_MESSAGE)?;
+    let mut buffer = Buffer::new(alloc)?;
     'cuts: for _count in 0..u64::MAX {
-        let came = cut(alloc, book, tally, &mut message)?;
+        let came = cut(alloc, book, tally, &mut buffer)?;
         if !came {
             return Ok(());
         }
@@ -275,17 +273,14 @@ fn cut(
     alloc: Global,
     book: &mut Book,
     tally: &mut Tally,
-    message: &mut Message,
+    buffer: &mut Buffer,
 ) -> Result<bool, NoMemory>
-    requires { message.old.room ≡ max_message }
-    ensures cuts { (cfg : Sections) (H : History) → IsCounted cfg H book.old tally.old
+    ensures { (cfg : Sections) (H : History) → IsCounted cfg H book.old tally.old
         → Cuts cfg H book.new tally.new result }
-    ensures room { message.new.room ≡ message.old.room }
 {
-    message.clear();
-    match book.cut(0, message) {
+    match buffer.cut(book, 0) {
         Cut::Message { .. } => {
-            tally.message(alloc, message.bytes())?;
+            tally.message(alloc, buffer.bytes())?;
             Ok(true)
         }
         Cut::Down | Cut::Reset { .. } | Cut::Nothing => Ok(false),

@@ -5,26 +5,25 @@ ghost use Rattle.config_model.specs.Sections.{Sections};
 ghost use Rattle.book_history.specs.Entries.{History};
 ghost use Rattle.book_history.specs.Entries.Entry.{MessageCut};
 ghost use Rattle.answer_texts.specs.Shown.{shown};
-ghost use Rattle.script_grammar.specs.Events.{Cut, Down, Peer, Refresh, Up};
+ghost use Rattle.script_grammar.specs.Events as events;
 ghost use Rattle.script_play.specs.Entering.{PutsAsked};
-ghost use Rattle.script_play.specs.Player.{PlayerStands};
+ghost use Rattle.script_play.specs.Player.{PlayerStands, known_by};
 
 use crate::player::Player;
 use answer_texts::{put_cut, put_ok, put_peer, put_up};
 use answers::NoMemory;
 use book_core::{Cut, Peer};
-use route_values::{Caps, Family};
+use config_model::MAX_PEERS;
+use route_values::{Caps, Family, Settings};
 
 impl Player {
     // Which neighbour is in a slot. Its settings are kept for a session that comes up.
     pub(crate) fn peer(&mut self, n: usize) -> Result<(), NoMemory>
         requires { n < max_peers }
-        ensures { PutsAsked self.old self.new (Peer n) result }
+        ensures { PutsAsked self.old self.new (events.Peer n) result }
     {
         let given = self.book.peer(n);
-        if let Peer::Is(settings) = given {
-            self.known[n] = Some(settings);
-        }
+        keep(&mut self.known, n, &given);
         self.text.clear();
         put_peer(&mut self.text, &given)
     }
@@ -32,7 +31,7 @@ impl Player {
     // A session comes up, with the settings that the slot told last. Where it told none there is nothing to enter.
     pub(crate) fn up(&mut self, n: usize, caps: Caps) -> Result<(), NoMemory>
         requires { n < max_peers }
-        ensures { PutsAsked self.old self.new (Up n caps) result }
+        ensures { PutsAsked self.old self.new (events.Up n caps) result }
     {
         let Some(settings) = self.known[n] else {
             return Err(NoMemory);
@@ -45,7 +44,7 @@ impl Player {
     // A session goes down.
     pub(crate) fn down(&mut self, n: usize) -> Result<(), NoMemory>
         requires { n < max_peers }
-        ensures { PutsAsked self.old self.new (Down n) result }
+        ensures { PutsAsked self.old self.new (events.Down n) result }
     {
         self.book.down(n);
         self.text.clear();
@@ -55,7 +54,7 @@ impl Player {
     // A neighbour asks for a family again.
     pub(crate) fn refresh(&mut self, n: usize, family: Family) -> Result<(), NoMemory>
         requires { n < max_peers }
-        ensures { PutsAsked self.old self.new (Refresh n family) result }
+        ensures { PutsAsked self.old self.new (events.Refresh n family) result }
     {
         self.book.refresh(n, family);
         self.text.clear();
@@ -65,7 +64,7 @@ impl Player {
     // The next message of a slot is made.
     pub(crate) fn cut(&mut self, n: usize) -> Result<(), NoMemory>
         requires { n < max_peers }
-        ensures { PutsAsked self.old self.new (Cut n) result }
+        ensures { PutsAsked self.old self.new (events.Cut n) result }
     {
         let given = self.cut_next(n);
         self.put_cut(n, given)
@@ -77,8 +76,7 @@ impl Player {
         ensures { (cfg : Sections) (H : History) → PlayerStands cfg H self.old
             → PlayerStands cfg (MessageCut n self.new.message.bytes result ∷ H) self.new }
     {
-        self.message.clear();
-        self.book.cut(n, &mut self.message)
+        self.message.cut(&mut self.book, n)
     }
 
     // Puts what is printed of a cut, whose message stands in the buffer.
@@ -90,5 +88,15 @@ impl Player {
     {
         self.text.clear();
         put_cut(self.alloc, &mut self.text, n, self.message.bytes(), given)
+    }
+}
+
+// Keeps the settings that a slot told, if it told any.
+fn keep(known: &mut [Option<Settings>; MAX_PEERS], n: usize, given: &Peer)
+    requires { n < max_peers }
+    ensures { known.new ≡ known_by n given.now known.old }
+{
+    if let Peer::Is(settings) = given {
+        known[n] = Some(*settings);
     }
 }

@@ -1,29 +1,28 @@
 //! A book to which the events of a script happen.
-ghost use Rattle.std.specs.Prelude.{◌≡◌, [], IfOk, IsTrue};
+ghost use Rattle.std.specs.Prelude.{◌≡◌, ℕ, List, [], Option, IfOk, IsTrue};
 ghost use Rattle.outside.specs.Lent.{LendsNone};
 ghost use Rattle.outside.specs.Seen.{sink_seen};
+ghost use Rattle.attr_codec.specs.Buffer.{max_message};
 ghost use Rattle.config_model.specs.Sections.{Sections};
 ghost use Rattle.book_history.specs.Entries.{History};
-ghost use Rattle.script_grammar.specs.Events.{event_told};
+ghost use Rattle.book_core.specs.Stands.{Stands};
+ghost use Rattle.script_grammar.specs.Events.{Reload, event_told};
 ghost use Rattle.script_grammar.specs.Laws.{HasSlot};
 ghost use Rattle.text_history.specs.Plays.{is_known};
 ghost use Rattle.script_play.specs.Entering.{Enters, PutsAsked};
-ghost use Rattle.script_play.specs.Player.{PlayerStands};
+ghost use Rattle.script_play.specs.Player.{AreKnown, PlayerStands};
 
+use crate::buffer::Buffer;
 use crate::halt::Halt;
 use crate::hashing::fixed_state;
 use crate::writing::write;
 use answers::NoMemory;
-use attr_codec::Message;
 use book_core::Book;
 use config_model::{Config, MAX_PEERS};
 use outside::{Files, Sink};
 use route_values::Settings;
 use script_grammar::Event;
 use std::alloc::Global;
-
-/// How many bytes a message may have.
-pub const MAX_MESSAGE: usize = 65_535;
 
 /// A book to which the events of a script happen, with what the events before told of neighbours. Its buffers are used
 /// again for each event.
@@ -33,7 +32,7 @@ pub struct Player {
     pub(crate) book: Book,
     // The settings that each neighbour slot told last.
     pub(crate) known: [Option<Settings>; MAX_PEERS],
-    pub(crate) message: Message,
+    pub(crate) message: Buffer,
     // What is printed of the event that was entered last.
     pub(crate) text: Vec<u8>,
 }
@@ -44,19 +43,28 @@ impl Player {
         ensures { IfOk result (PlayerStands config []) }
     {
         let hasher = fixed_state()?;
-        let message = Message::new(alloc, MAX_MESSAGE)?;
+        let message = Buffer::new(alloc)?;
         let book = Book::open(alloc, config, hasher)?;
-        Ok(Player {
+        Ok(Player::of(alloc, book, message))
+    }
+
+    // A player of a book to which nothing has happened.
+    fn of(alloc: Global, book: Book, message: Buffer) -> Player
+        requires { message.room ≡ max_message }
+        ensures { (cfg : Sections) → Stands cfg [] book → PlayerStands cfg [] result }
+    {
+        Player {
             alloc,
             book,
-            known: [None; MAX_PEERS],
+            known: none_known(),
             message,
             text: Vec::new(alloc),
-        })
+        }
     }
 
     /// Whether an event can be entered: one of a session that comes up needs settings that its slot told before.
     pub fn knows(&self, event: &Event<'_>) -> bool
+        requires { HasSlot (event_told event.now) }
         ensures { (cfg : Sections) (H : History) → PlayerStands cfg H self.now
             → result ≡ is_known H (event_told event.now) }
     {
@@ -85,15 +93,41 @@ impl Player {
     {
         match event {
             Event::Drain { n } => self.drain(*n, output),
-            Event::Reload { path } => {
-                self.reload(files, path)?;
-                write(output, &self.text)
-            }
-            event => {
-                self.ask(event)?;
-                write(output, &self.text)
-            }
+            Event::Reload { path } => self.enter_reload(files, path, output),
+            _ => self.enter_one(event, output),
         }
+    }
+
+    // Enters the reload by a file, and writes what became of it.
+    fn enter_reload<F: Files, K: Sink>(
+        &mut self,
+        files: &mut F,
+        path: &str,
+        output: &mut K,
+    ) -> Result<(), Halt>
+        ensures entered { (cfg : Sections) (H : History) → PlayerStands cfg H self.old
+            → Enters (F.content files.old) cfg H (Reload path.now) self.new
+            (F.faults files.old) (F.faults files.new) (sink_seen K.taken K.faults output.old)
+            (sink_seen K.taken K.faults output.new) result }
+        ensures content { F.content files.new ≡ F.content files.old }
+        ensures back { LendsNone (F.lent files.old) (F.lent files.new) }
+    {
+        self.reload(files, path)?;
+        write(output, &self.text)
+    }
+
+    // Enters an event that is one call of the book alone, and writes what it is answered.
+    fn enter_one<K: Sink>(&mut self, event: &Event<'_>, output: &mut K) -> Result<(), Halt>
+        requires slot { HasSlot (event_told event.now) }
+        requires known { (cfg : Sections) (H : History) → PlayerStands cfg H self.old
+            → IsTrue (is_known H (event_told event.now)) }
+        ensures { (content : Option (List ℕ → List ℕ)) (files : ℕ) (cfg : Sections) (H : History)
+            → PlayerStands cfg H self.old → Enters content cfg H (event_told event.now) self.new
+            files files (sink_seen K.taken K.faults output.old)
+            (sink_seen K.taken K.faults output.new) result }
+    {
+        self.ask(event)?;
+        write(output, &self.text)
     }
 
     // Enters an event that is one call of the book alone.
@@ -116,4 +150,11 @@ impl Player {
             Event::Drain { .. } | Event::Reload { .. } => Err(NoMemory),
         }
     }
+}
+
+// Before anything happens no slot has told its settings.
+fn none_known() -> [Option<Settings>; MAX_PEERS]
+    ensures { AreKnown [] result }
+{
+    [None; MAX_PEERS]
 }

@@ -2,16 +2,22 @@
 ghost use Rattle.std.specs.Prelude.{◌≡◌, ◌+◌, ◌<◌, ◌≤◌, ◌^◌, OnOk, length};
 ghost use Rattle.outside.specs.Lent.{LendsNone};
 ghost use Rattle.outside.specs.Seen.{sink_seen, source_seen};
-ghost use Rattle.script_play.specs.Streams.{HasNoFeed, Plays, PlaysLine, PlaysPiece, ended};
+ghost use Rattle.script_grammar.specs.Events.{Says, event_told};
+ghost use Rattle.script_grammar.specs.Laws.{HasSlot};
+ghost use Rattle.script_grammar.specs.Reading.{script_line};
+ghost use Rattle.script_play.specs.Streams.{HasNoFeed, Plays, PlaysLast, PlaysLine, PlaysPiece};
+ghost use Rattle.script_play.specs.Streams.{ended, status_by};
 
 use crate::halt::Halt;
 use crate::player::Player;
 use crate::status::Status;
+use answer_texts::texts_follow;
 use config_model::Config;
 use outside::{Files, Read, Sink, Source};
-use script_grammar::{Event, MAX_SCRIPT_LINE, ScriptLine, read_script_line};
+use script_grammar::{Event, MAX_SCRIPT_LINE, ScriptLine, read_script_line, script_lines_say_one};
 use std::alloc::Global;
 use text_forms::cut;
+use text_history::histories_go_on;
 
 // How many bytes of input are too many.
 const MAX_INPUT: usize = 1 << 40;
@@ -61,7 +67,15 @@ fn play_all<F: Files, S: Source, K: Sink>(
     files: &mut F,
     input: &mut S,
     output: &mut K,
-) -> Result<(), Halt> {
+) -> Result<(), Halt>
+    ensures plays { Plays (F.content files.old) config
+        (source_seen S.given S.left S.ended S.faults input.old)
+        (source_seen S.given S.left S.ended S.faults input.new)
+        (sink_seen K.taken K.faults output.old) (sink_seen K.taken K.faults output.new)
+        (F.faults files.old) (F.faults files.new) (status_by result) }
+    ensures content { F.content files.new ≡ F.content files.old }
+    ensures back { LendsNone (F.lent files.old) (F.lent files.new) }
+{
     let mut player = Player::new(alloc, config)?;
     let mut place = Place {
         number: 0,
@@ -94,7 +108,7 @@ fn play_piece<F: Files, K: Sink>(
     piece: &[u8],
     output: &mut K,
 ) -> Result<(), Halt>
-    requires few { place.old.number + length piece.now < 2 ^ 64 }
+    requires few { place.old.number + length piece.now + 1 < 2 ^ 64 }
     ensures plays { PlaysPiece (F.content files.old) piece.now place.old.held.items
         place.new.held.items place.old.number place.new.number player.old player.new
         (F.faults files.old) (F.faults files.new) (sink_seen K.taken K.faults output.old)
@@ -133,6 +147,8 @@ fn play_ended<F: Files, K: Sink>(
     ensures content { F.content files.new ≡ F.content files.old }
     ensures back { LendsNone (F.lent files.old) (F.lent files.new) }
 {
+    histories_go_on();
+    texts_follow();
     place.held.extend_from_slice(part)?;
     place.number += 1;
     play_line(player, files, place.number, &place.held, output)?;
@@ -146,7 +162,16 @@ fn play_last<F: Files, K: Sink>(
     place: &Place,
     files: &mut F,
     output: &mut K,
-) -> Result<(), Halt> {
+) -> Result<(), Halt>
+    requires { place.now.number + 1 < 2 ^ 64 }
+    ensures plays { PlaysLast (F.content files.old) place.now.held.items place.now.number player.old
+        (F.faults files.old) (F.faults files.new) (sink_seen K.taken K.faults output.old)
+        (sink_seen K.taken K.faults output.new) result }
+    ensures content { F.content files.new ≡ F.content files.old }
+    ensures back { LendsNone (F.lent files.old) (F.lent files.new) }
+{
+    histories_go_on();
+    texts_follow();
     if place.held.is_empty() {
         return Ok(());
     }
@@ -161,12 +186,13 @@ fn play_line<F: Files, K: Sink>(
     line: &[u8],
     output: &mut K,
 ) -> Result<(), Halt>
-    ensures plays { PlaysLine (F.content files.old) number line.now player.old player.new
-        (F.faults files.old) (F.faults files.new) (sink_seen K.taken K.faults output.old)
+    ensures plays { PlaysLine (F.content files.old) number (script_line line.now) player.old
+        player.new (F.faults files.old) (F.faults files.new) (sink_seen K.taken K.faults output.old)
         (sink_seen K.taken K.faults output.new) result }
     ensures content { F.content files.new ≡ F.content files.old }
     ensures back { LendsNone (F.lent files.old) (F.lent files.new) }
 {
+    script_lines_say_one();
     match read_script_line(line) {
         ScriptLine::PassedOver => Ok(()),
         ScriptLine::Says(event) => play_event(player, files, number, &event, output),
@@ -181,7 +207,14 @@ fn play_event<F: Files, K: Sink>(
     number: u64,
     event: &Event<'_>,
     output: &mut K,
-) -> Result<(), Halt> {
+) -> Result<(), Halt>
+    requires { HasSlot (event_told event.now) }
+    ensures plays { PlaysLine (F.content files.old) number (Says (event_told event.now)) player.old
+        player.new (F.faults files.old) (F.faults files.new) (sink_seen K.taken K.faults output.old)
+        (sink_seen K.taken K.faults output.new) result }
+    ensures content { F.content files.new ≡ F.content files.old }
+    ensures back { LendsNone (F.lent files.old) (F.lent files.new) }
+{
     if !player.knows(event) {
         return Err(Halt::Script(number));
     }

@@ -18,3 +18,6 @@ returns-clause-answered g c source =
           rw w.output-is (rw w.result-is (unread_stopped content (Check c.args.path) source _ checked_text _ _ _ tt
           (read_none source) (refl, refl) (λ fault at. (_, (refl, refl), at)) w.in-Err.ensures.unread))
     ]
+
+pub configured-requires-clause-never : goal.configured-requires-clause-never
+configured-requires-clause-never g c κs within = ?
