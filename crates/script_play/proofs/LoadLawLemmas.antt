@@ -1,10 +1,9 @@
 -- A load as the steps of the neighbour's slot.
-use Rattle.std.proofs.Common.{◌≡◌, ℕ, ◌*◌, Bool, List, [], ◌∷◌, ◌++◌, Some, Ok, Err, refl, sym, ap, ◌∙◌, subst}
+use Rattle.std.proofs.Common.{◌≡◌, ℕ, ◌*◌, List, [], ◌∷◌, ◌++◌, Some, Ok, Err, refl, sym, ap, ◌∙◌, subst}
 use Rattle.std.specs.Prelude.{Result, map, if◌then◌else◌}
 use Rattle.std.specs.List.{AllByRecursion}
 use Rattle.text_forms.specs.Lines.{Line, Text}
 use Rattle.route_grammar.specs.declared.fault.ReadFault.{ReadFault}
-use Rattle.route_values.specs.declared.key.Key.{Key}
 use Rattle.update_grammar.specs.Net.{net}
 use Rattle.command_grammar.specs.declared.command.Command.{Command}
 use Rattle.config_model.specs.declared.sections.Neighbor.{Neighbor}
@@ -31,8 +30,8 @@ use Rattle.book_history.specs.Selecting.{selects}
 use Rattle.book_history.specs.Slots.{slot}
 use Rattle.book_history.proofs.StepLemmas.{AreQuiet, commanded_quiet, legal_before}
 use Rattle.text_history.specs.Plays.{IsMessageOf}
-use Rattle.script_play.specs.LoadLaws.{IsLoadConfig, LeavesCounted, LoadsLeaveCounted}
-use Rattle.script_play.specs.Loads.{AddsReplied, AreCut, IsEntered, IsLoad, announce_line, begun, effects_in}
+use Rattle.script_play.specs.LoadLaws.{IsLoadConfig, LoadsLeaveCounted}
+use Rattle.script_play.specs.Loads.{AddsReplied, AreCut, IsEntered, announce_line, begun, effects_in}
 use Rattle.script_play.specs.Loads.{evens_below}
 use Rattle.script_play.specs.Loads.{load_caps, load_settings, withdraw_line}
 use Rattle.script_play.proofs.CountingLemmas.{said_more}

@@ -1,20 +1,17 @@
 -- What a load enters, and the first of it.
-use Rattle.std.proofs.Common.{◌≡◌, ℕ, ◌+◌, ◌-◌, ◌*◌, ◌<◌, ◌≤◌, zero, suc, Bool, true, false, List, [], ◌∷◌, ◌++◌}
+use Rattle.std.proofs.Common.{◌≡◌, ℕ, ◌+◌, ◌-◌, ◌*◌, ◌<◌, zero, suc, Bool, true, false, List, [], ◌∷◌, ◌++◌}
 use Rattle.std.proofs.Common.{Ok, Err}
 use Rattle.std.proofs.Common.{refl, sym, ap, ◌∙◌, subst, arith, append_assoc}
-use Rattle.std.specs.Prelude.{Result, IfOk, IsErr, MatchResult, OnOk, if◌then◌else◌}
+use Rattle.std.specs.Prelude.{Result, IfOk, IsErr, MatchResult, OnOk}
 use Rattle.std.specs.List.{AllByRecursion}
 use Rattle.text_forms.specs.Lines.{Line, Text}
-use Rattle.attr_codec.specs.Buffer.{Buffer}
 use Rattle.outside.specs.Seen.{SinkSeen}
 use Rattle.outside.specs.Told.{Grows}
-use Rattle.update_grammar.specs.Packed.{room}
 use Rattle.route_grammar.specs.declared.fault.ReadFault.{ReadFault}
 use Rattle.command_grammar.specs.declared.command.Command.{Command}
 use Rattle.command_grammar.specs.declared.command.Command.TheVariants as command
 use Rattle.config_model.specs.Sections.{Sections}
 use Rattle.book_core.specs.Seen.{Seen as Book}
-use Rattle.book_core.specs.Ready.{TakesCuts}
 use Rattle.book_core.specs.Stands.{Stands}
 use Rattle.book_history.specs.declared.outcomes.Cut.{Cut}
 use Rattle.book_history.specs.declared.outcomes.Cut.TheVariants as cut
@@ -35,9 +32,9 @@ use Rattle.script_play.specs.declared.status.Status.{Status}
 use Rattle.script_play.specs.declared.status.Status.TheVariants as status
 use Rattle.script_play.specs.Loads.{AddsAnnounce, AddsReplied, AddsWithdraw, AreCut, IsEntered, begun}
 use Rattle.script_play.specs.Loads.{counts_of, counts_text, evens_below, withdraw_line}
-use Rattle.script_play.specs.Loading.{Began, Begins, Cuts, Enters, Entered, IsCounted, IsCut, IsCutAlone, IsReplied}
+use Rattle.script_play.specs.Loading.{Began, Begins, Cuts, EntersAll, EnteredAll, IsCounted, IsCut, IsCutAlone}
+use Rattle.script_play.specs.Loading.{IsReplied}
 use Rattle.script_play.specs.Loading.{IsTold, LoadBegan, Loads, Tallies, Tells}
-use Rattle.script_play.specs.Player.{max_message}
 
 -- ---- numbers
 
@@ -147,12 +144,13 @@ module _ (make : ℕ → List ℕ) where
       (adding_more Adds H mid added (numbers_from 0 i) i says adds))
 
   module _ (cfg : Sections) (H : History) where
-    pub none_said : (book : Book) (tally : Tally) → IsCounted cfg H book tally → Entered (SaysFirst 0) cfg H book tally
+    pub none_said : (book : Book) (tally : Tally) → IsCounted cfg H book tally
+        → EnteredAll (SaysFirst 0) cfg H book tally
     none_said book tally counted = record { after = H; leads = refl; counted = counted }
 
-    pub one_said : (i : ℕ) (mid book : Book) (at tally : Tally) → Entered (SaysFirst i) cfg H mid at
-        → ((before : History) → IsCounted cfg before mid at → Entered (IsReplied (make i)) cfg before book tally)
-        → Entered (SaysFirst (i + 1)) cfg H book tally
+    pub one_said : (i : ℕ) (mid book : Book) (at tally : Tally) → EnteredAll (SaysFirst i) cfg H mid at
+        → ((before : History) → IsCounted cfg before mid at → EnteredAll (IsReplied (make i)) cfg before book tally)
+        → EnteredAll (SaysFirst (i + 1)) cfg H book tally
     one_said i mid book at tally entered next =
         let one = next entered.after entered.counted in
         record {
@@ -161,7 +159,7 @@ module _ (make : ℕ → List ℕ) where
           counted = one.counted;
         }
 
-    pub one_begun : (i count : ℕ) (mid book : Book) (at : Tally) → i < count → Entered (SaysFirst i) cfg H mid at
+    pub one_begun : (i count : ℕ) (mid book : Book) (at : Tally) → i < count → EnteredAll (SaysFirst i) cfg H mid at
         → ((before : History) → IsCounted cfg before mid at → Began (IsReplied (make i)) cfg before book)
         → Began (SaysFirst count) cfg H book
     one_begun i count mid book at below entered next =
@@ -223,7 +221,7 @@ module _ (cfg : Sections) (H : History) where
 
   pub draining_end : (mid book : Book) (at tally : Tally) (came : Bool) → came ≡ false → IsDraining cfg H mid at
       → ((before : History) → IsCounted cfg before mid at → IsCut came cfg before book tally)
-      → Entered AreCut cfg H book tally
+      → EnteredAll AreCut cfg H book tally
   draining_end mid book at tally came so draining next =
       let one = next (draining.messages ++ H) draining.counted in
       let all : History = MessageCut 0 one.bytes one.given ∷ draining.messages in
@@ -262,7 +260,7 @@ module _ (cfg : Sections) (H : History) where
 -- what began is what a call leaves that answers want of memory
 pub began_err : {E : Type 0} (Leads : History → History → Type 0) (cfg : Sections) (H : History) (book : Book)
     (tally : Tally) (result : Result (Unit {0}) E) → IsErr result → Began Leads cfg H book
-    → Enters Leads cfg H book tally result
+    → EntersAll Leads cfg H book tally result
 began_err Leads cfg H book tally (Ok done) failed began = absurd (let no_way : false ≡ true = failed in cc)
 began_err Leads cfg H book tally (Err because) failed began = began
 
@@ -283,7 +281,7 @@ module _ (First Next : History → History → Type 0) (cfg : Sections) (H : His
       }
 
   -- the first step was entered, and the next began
-  pub began_next : (mid book : Book) (at : Tally) → Entered First cfg H mid at
+  pub began_next : (mid book : Book) (at : Tally) → EnteredAll First cfg H mid at
       → ((before : History) → IsCounted cfg before mid at → Began Next cfg before book)
       → Began (Then First Next) cfg H book
   began_next mid book at entered next =
@@ -296,9 +294,9 @@ module _ (First Next : History → History → Type 0) (cfg : Sections) (H : His
       }
 
   -- both were entered
-  pub entered_both : (mid book : Book) (at tally : Tally) → Entered First cfg H mid at
-      → ((before : History) → IsCounted cfg before mid at → Entered Next cfg before book tally)
-      → Entered (Then First Next) cfg H book tally
+  pub entered_both : (mid book : Book) (at tally : Tally) → EnteredAll First cfg H mid at
+      → ((before : History) → IsCounted cfg before mid at → EnteredAll Next cfg before book tally)
+      → EnteredAll (Then First Next) cfg H book tally
   entered_both mid book at tally entered next =
       let both = next entered.after entered.counted in
       record {
@@ -357,15 +355,15 @@ module _ (count : ℕ) (cfg : Sections) (H : History) where
   begun_first book began =
       whole_begun book (began_first (Announces count) (Second count) cfg H book (second_goes_on count) began)
 
-  pub begun_second : (mid book : Book) (at : Tally) → Entered (Announces count) cfg H mid at
+  pub begun_second : (mid book : Book) (at : Tally) → EnteredAll (Announces count) cfg H mid at
       → ((before : History) → IsCounted cfg before mid at → Began AreCut cfg before book)
       → Began (IsEntered count) cfg H book
   begun_second mid book at announced next =
       whole_begun book (began_next (Announces count) (Second count) cfg H mid book at announced
       (λ before counted. began_first AreCut (Third count) cfg before book (third_goes_on count) (next before counted)))
 
-  pub begun_third : (one mid book : Book) (first at : Tally) → Entered (Announces count) cfg H one first
-      → ((before : History) → IsCounted cfg before one first → Entered AreCut cfg before mid at)
+  pub begun_third : (one mid book : Book) (first at : Tally) → EnteredAll (Announces count) cfg H one first
+      → ((before : History) → IsCounted cfg before one first → EnteredAll AreCut cfg before mid at)
       → ((before : History) → IsCounted cfg before mid at → Began (Withdraws count) cfg before book)
       → Began (IsEntered count) cfg H book
   begun_third one mid book first at announced cuts next =
@@ -375,11 +373,11 @@ module _ (count : ℕ) (cfg : Sections) (H : History) where
 
   pub all_entered : {E : Type 0} (one two mid book : Book) (first second at tally : Tally)
       (result : Result (Unit {0}) E)
-      → Entered (Announces count) cfg H one first
-      → ((before : History) → IsCounted cfg before one first → Entered AreCut cfg before two second)
-      → ((before : History) → IsCounted cfg before two second → Entered (Withdraws count) cfg before mid at)
-      → ((before : History) → IsCounted cfg before mid at → Enters AreCut cfg before book tally result)
-      → Enters (IsEntered count) cfg H book tally result
+      → EnteredAll (Announces count) cfg H one first
+      → ((before : History) → IsCounted cfg before one first → EnteredAll AreCut cfg before two second)
+      → ((before : History) → IsCounted cfg before two second → EnteredAll (Withdraws count) cfg before mid at)
+      → ((before : History) → IsCounted cfg before mid at → EntersAll AreCut cfg before book tally result)
+      → EntersAll (IsEntered count) cfg H book tally result
   all_entered one two mid book first second at tally (Ok done) announced cuts withdraws next =
       let all = entered_both (Announces count) (Second count) cfg H one book first tally announced
       (λ before counted. entered_both AreCut (Third count) cfg before two book second tally (cuts before counted)
@@ -418,7 +416,7 @@ pub line_entered : {E : Type 0} (cfg : Sections) (H : History) (text : List ℕ)
     → Stands cfg (RepliesTaken 0 1 taken ∷ LineEntered 0 1 line reading given ∷ H) book
     → OnOk result ((before : History) (h inc : ℕ) (other : Line) (said : Result Command ReadFault)
     → Tallies before at → Tallies (LineEntered h inc other said given ∷ before) tally)
-    → Enters (IsReplied text) cfg H book tally result
+    → EntersAll (IsReplied text) cfg H book tally result
 line_entered cfg H text line reading given taken book at tally (Ok done) is counted stands next = record {
   after = RepliesTaken 0 1 taken ∷ LineEntered 0 1 (Text text) reading given ∷ H;
   leads = (
@@ -444,16 +442,6 @@ line_entered cfg H text line reading given taken book at tally (Err because) is 
   stands = subst (λ (l : Line). Stands cfg (RepliesTaken 0 1 taken ∷ LineEntered 0 1 l reading given ∷ H) book) is
       stands;
 }
-
--- the buffer takes every message of a session
-pub room_for_cuts : (book : Book) (n : ℕ) (message : Buffer) → message.room ≡ max_message
-    → TakesCuts book n message.room
-room_for_cuts book n message is = λ peering caps at up.
-    subst (λ size. room caps ≤ size) (sym is) (by_size caps.extended)
-  where
-    by_size : (extended : Bool) → (if extended then 65535 else 4096) ≤ max_message
-    by_size true = omega arith
-    by_size false = omega arith
 
 -- a message was cut
 pub message_alone : (cfg : Sections) (H : History) (bytes out : List ℕ) (given : Cut) (last : Bool) (book : Book)
@@ -522,7 +510,7 @@ began_some cfg count started raised book (Err because) Told failed began = recor
 
 -- all was entered, and the text of the counts is made by a call
 pub told_by : {V E : Type 0} (cfg : Sections) (count : ℕ) (started : Spawn) (raised : Up) (book : Book) (tally : Tally)
-    (result : Result V E) (items : V → List ℕ) → Entered (IsEntered count) cfg (begun started raised) book tally
+    (result : Result V E) (items : V → List ℕ) → EnteredAll (IsEntered count) cfg (begun started raised) book tally
     → IfOk result (λ text. (H : History) → Tallies H tally → items text ≡ counts_text (counts_of count H))
     → MatchResult result (λ text. IsTold cfg count book (items text)) (λ _. LoadBegan cfg count book)
 told_by cfg count started raised book tally (Ok text) items entered told = record {

@@ -1,5 +1,5 @@
 -- What the messages of a load leave at the neighbour.
-use Rattle.std.specs.Prelude.{ℕ, ◌≡◌, List, [], ◌∷◌, Some}
+use Rattle.std.specs.Prelude.{ℕ, ◌≡◌, [], ◌∷◌, Some}
 use Rattle.route_values.specs.declared.key.Key.{Key}
 use Rattle.update_grammar.specs.Net.{net}
 use Rattle.config_model.specs.declared.sections.Neighbor.{Neighbor}

@@ -40,7 +40,7 @@ pub record IsCounted (cfg : Sections) (H : History) (book : Book) (tally : Tally
   pub counts : Tallies H tally
 
 -- events that lead from a history to another were entered and counted
-pub record Entered (Leads : History → History → Type 0) (cfg : Sections) (H : History) (book : Book) (tally : Tally)
+pub record EnteredAll (Leads : History → History → Type 0) (cfg : Sections) (H : History) (book : Book) (tally : Tally)
     : Type 0 where
   pub after : History
   pub leads : Leads H after
@@ -54,10 +54,10 @@ pub record Began (Leads : History → History → Type 0) (cfg : Sections) (H : 
   pub stands : Stands cfg after book
 
 -- what a call leaves that enters and counts events
-abbrev pub Enters : {E : Type 0} → (History → History → Type 0) → Sections → History → Book → Tally
+abbrev pub EntersAll : {E : Type 0} → (History → History → Type 0) → Sections → History → Book → Tally
     → Result (Unit {0}) E → Type 0
-Enters Leads cfg H book tally (Ok _) = Entered Leads cfg H book tally
-Enters Leads cfg H book tally (Err _) = Began Leads cfg H book
+EntersAll Leads cfg H book tally (Ok _) = EnteredAll Leads cfg H book tally
+EntersAll Leads cfg H book tally (Err _) = Began Leads cfg H book
 
 -- a line is said, and its reply taken
 abbrev pub IsReplied : List ℕ → History → History → Type 0

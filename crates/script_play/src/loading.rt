@@ -10,17 +10,15 @@ ghost use Rattle.text_history.specs.Adding.{Adding};
 ghost use Rattle.script_play.specs.Loads.{AddsAnnounce, AddsWithdraw, AreCut, IsEntered};
 ghost use Rattle.script_play.specs.Loads.{announce_line, withdraw_line, load_caps, load_prefix};
 ghost use Rattle.script_play.specs.Loads.{max_routes};
-ghost use Rattle.script_play.specs.Loading.{Begins, Cuts, Enters, IsCounted, IsReplied, IsTold};
+ghost use Rattle.script_play.specs.Loading.{Begins, Cuts, EntersAll, IsCounted, IsReplied, IsTold};
 ghost use Rattle.script_play.specs.Loading.{LoadBegan, Loads, Tells};
-ghost use Rattle.script_play.specs.Player.{max_message};
 
+use crate::buffer::Buffer;
 use crate::counting::Tally;
-use crate::player::MAX_MESSAGE;
 use crate::status::Status;
 use crate::writing::write;
 use answers::NoMemory;
 use arrayvec::ArrayVec;
-use attr_codec::Message;
 use book_core::{Book, Cut, Spawn, Take};
 use command_grammar::ReadLine;
 use outside::Sink;
@@ -59,7 +57,7 @@ const STEP: u32 = 256;
 // How many bytes a line has at most.
 const LINE_ROOM: usize = 64;
 
-/// Enters a large input into a newly opened book, and writes what was counted of it as nine lines.
+/// EntersAll a large input into a newly opened book, and writes what was counted of it as nine lines.
 ///
 /// A helper is started, the neighbour's session comes up, so many routes are announced, a line each, and all messages
 /// are cut; then each second one is withdrawn, from the first on, and all messages are cut again. The book is to be
@@ -90,7 +88,7 @@ fn tell<K: Sink>(text: &[u8], output: &mut K) -> Status
     }
 }
 
-// Enters all events, and answers the text of the counts.
+// EntersAll all events, and answers the text of the counts.
 fn load_all(alloc: Global, book: &mut Book, count: u32) -> Result<Vec<u8>, NoMemory>
     requires { count ≤ max_routes }
     ensures { (cfg : Sections) → Stands cfg [] book.old → MatchResult result
@@ -117,11 +115,11 @@ fn caps() -> Caps
     Caps::none().with(Family::Ipv4, false)
 }
 
-// Enters what comes behind that.
+// EntersAll what comes behind that.
 fn enter_all(alloc: Global, book: &mut Book, tally: &mut Tally, count: u32) -> Result<(), NoMemory>
     requires { count ≤ max_routes }
     ensures { (cfg : Sections) (H : History) → IsCounted cfg H book.old tally.old
-        → Enters (IsEntered count) cfg H book.new tally.new result }
+        → EntersAll (IsEntered count) cfg H book.new tally.new result }
 {
     announce_all(alloc, book, tally, count)?;
     drain(alloc, book, tally)?;
@@ -138,7 +136,7 @@ fn announce_all(
 ) -> Result<(), NoMemory>
     requires { count ≤ max_routes }
     ensures { (cfg : Sections) (H : History) → IsCounted cfg H book.old tally.old
-        → Enters (λ was now. Adding AddsAnnounce was (numbers_from 0 count) now) cfg H
+        → EntersAll (λ was now. Adding AddsAnnounce was (numbers_from 0 count) now) cfg H
         book.new tally.new result }
 {
     'routes: for i in 0..count {
@@ -156,7 +154,7 @@ fn withdraw_all(
 ) -> Result<(), NoMemory>
     requires { 2 * count ≤ max_routes + 1 }
     ensures { (cfg : Sections) (H : History) → IsCounted cfg H book.old tally.old
-        → Enters (λ was now. Adding AddsWithdraw was (numbers_from 0 count) now) cfg H
+        → EntersAll (λ was now. Adding AddsWithdraw was (numbers_from 0 count) now) cfg H
         book.new tally.new result }
 {
     'routes: for i in 0..count {
@@ -169,7 +167,7 @@ fn withdraw_all(
 fn announce(alloc: Global, book: &mut Book, tally: &mut Tally, i: u32) -> Result<(), NoMemory>
     requires { i < max_routes }
     ensures { (cfg : Sections) (H : History) → IsCounted cfg H book.old tally.old
-        → Enters (IsReplied (announce_line i)) cfg H book.new tally.new result }
+        → EntersAll (IsReplied (announce_line i)) cfg H book.new tally.new result }
 {
     let line = announce_line(i);
     enter(alloc, book, tally, &line)
@@ -179,7 +177,7 @@ fn announce(alloc: Global, book: &mut Book, tally: &mut Tally, i: u32) -> Result
 fn withdraw(alloc: Global, book: &mut Book, tally: &mut Tally, i: u32) -> Result<(), NoMemory>
     requires { i < max_routes }
     ensures { (cfg : Sections) (H : History) → IsCounted cfg H book.old tally.old
-        → Enters (IsReplied (withdraw_line i)) cfg H book.new tally.new result }
+        → EntersAll (IsReplied (withdraw_line i)) cfg H book.new tally.new result }
 {
     let line = withdraw_line(i);
     enter(alloc, book, tally, &line)
@@ -228,10 +226,10 @@ fn put(piece: &[u8], line: &mut ArrayVec<u8, LINE_ROOM>)
     let _ = line.try_extend_from_slice(piece);
 }
 
-// Enters a line of the helper, takes its reply, and counts it.
+// EntersAll a line of the helper, takes its reply, and counts it.
 fn enter(alloc: Global, book: &mut Book, tally: &mut Tally, line: &[u8]) -> Result<(), NoMemory>
     ensures { (cfg : Sections) (H : History) → IsCounted cfg H book.old tally.old
-        → Enters (IsReplied line.now) cfg H book.new tally.new result }
+        → EntersAll (IsReplied line.now) cfg H book.new tally.new result }
 {
     let read = ReadLine::new(alloc, Line::Text(line));
     let given = book.line(0, 1, &read);
@@ -258,11 +256,11 @@ fn end_take(given: Take) {
 // Messages are cut until none comes.
 fn drain(alloc: Global, book: &mut Book, tally: &mut Tally) -> Result<(), NoMemory>
     ensures { (cfg : Sections) (H : History) → IsCounted cfg H book.old tally.old
-        → Enters AreCut cfg H book.new tally.new result }
+        → EntersAll AreCut cfg H book.new tally.new result }
 {
-    let mut message = Message::new(alloc, MAX_MESSAGE)?;
+    let mut buffer = Buffer::new(alloc)?;
     'cuts: for _count in 0..u64::MAX {
-        let came = cut(alloc, book, tally, &mut message)?;
+        let came = cut(alloc, book, tally, &mut buffer)?;
         if !came {
             return Ok(());
         }
@@ -275,17 +273,14 @@ fn cut(
     alloc: Global,
     book: &mut Book,
     tally: &mut Tally,
-    message: &mut Message,
+    buffer: &mut Buffer,
 ) -> Result<bool, NoMemory>
-    requires { message.old.room ≡ max_message }
-    ensures cuts { (cfg : Sections) (H : History) → IsCounted cfg H book.old tally.old
+    ensures { (cfg : Sections) (H : History) → IsCounted cfg H book.old tally.old
         → Cuts cfg H book.new tally.new result }
-    ensures room { message.new.room ≡ message.old.room }
 {
-    message.clear();
-    match book.cut(0, message) {
+    match buffer.cut(book, 0) {
         Cut::Message { .. } => {
-            tally.message(alloc, message.bytes())?;
+            tally.message(alloc, buffer.bytes())?;
             Ok(true)
         }
         Cut::Down | Cut::Reset { .. } | Cut::Nothing => Ok(false),

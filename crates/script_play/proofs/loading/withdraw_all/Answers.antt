@@ -2,7 +2,7 @@ use Rattle.std.proofs.Common.{◌≡◌, ◌*◌, subst, arith}
 use Rattle.book_history.specs.Bounds.{numbers_from}
 use Rattle.text_history.specs.Adding.{Adding}
 use Rattle.script_play.specs.Loads.{AddsWithdraw, withdraw_line}
-use Rattle.script_play.specs.Loading.{Entered}
+use Rattle.script_play.specs.Loading.{EnteredAll}
 use Rattle.script_play.proofs.LoadingLemmas.{SaysFirst, began_err, none_said, one_begun, one_said}
 use Rattle.script_play.proofs.loading.withdraw_all.Goals as goal
 
@@ -26,5 +26,5 @@ returns-in_err-withdraw c = λ cfg H counted.
 pub returns : goal.returns
 returns c = λ cfg H counted.
     let all : c.routes.i ≡ c.args.count = omega arith in
-    subst (λ count. Entered (λ was now. Adding AddsWithdraw was (numbers_from 0 count) now) cfg H c.routes.book
+    subst (λ count. EnteredAll (λ was now. Adding AddsWithdraw was (numbers_from 0 count) now) cfg H c.routes.book
     c.routes.tally) all (c.routes.invariant cfg H counted)
