@@ -11,7 +11,7 @@ use Rattle.answer_texts.specs.Shown.{shown}
 use Rattle.script_grammar.specs.Events.{Event}
 use Rattle.text_history.specs.Plays.{Asks, is_known}
 use Rattle.script_play.specs.declared.player.Player.{Player}
-use Rattle.script_play.specs.Entering.{Asked, AskedAtMost, PutsAsked, entered, nothing}
+use Rattle.script_play.specs.Entering.{PutsAsked, entered}
 use Rattle.script_play.specs.Player.{AreKnown, PlayerStands, known_by}
 use Rattle.script_play.proofs.KnownLemmas.{TellsNone, known_on, known_told}
 

@@ -1,6 +1,6 @@
 -- Messages of a slot, made and written until none comes.
-use Rattle.std.proofs.Common.{ℕ, ◌≡◌, Bool, true, false, List, [], ◌∷◌, ◌++◌, ◌∙◌, sym, ap, refl, subst, append_assoc}
-use Rattle.std.proofs.Common.{append-nil, Option, Some, None, Result, Ok, Err}
+use Rattle.std.proofs.Common.{ℕ, ◌≡◌, true, false, List, [], ◌∷◌, ◌++◌, ◌∙◌, sym, ap, refl, subst, append_assoc}
+use Rattle.std.proofs.Common.{append-nil, Option, Result, Ok, Err}
 use Rattle.std.specs.Prelude.{IsErrAnd}
 use Rattle.std.specs.List.{AllByRecursion}
 use Rattle.outside.specs.Seen.{SinkSeen}
@@ -9,7 +9,7 @@ use Rattle.outside.proofs.ToldLemmas.{grows_more}
 use Rattle.config_model.specs.Sections.{Sections}
 use Rattle.book_history.specs.declared.outcomes.Cut.{Cut as Cutting}
 use Rattle.book_history.specs.declared.outcomes.Cut.TheVariants as cut
-use Rattle.book_history.specs.Entries.{Entry, History}
+use Rattle.book_history.specs.Entries.{History}
 use Rattle.book_history.specs.Entries.Entry.{MessageCut}
 use Rattle.answer_texts.specs.Shown.{all_of, shown}
 use Rattle.script_grammar.specs.Events.{Drain}
@@ -18,7 +18,7 @@ use Rattle.script_play.specs.declared.halt.Halt.{Halt}
 use Rattle.script_play.specs.declared.halt.Halt.TheVariants as halt
 use Rattle.script_play.specs.declared.player.Player.{Player}
 use Rattle.script_play.specs.Draining.{CutBroken, CutWritten, WritesCut}
-use Rattle.script_play.specs.Entering.{Entered, EnteredPart, Enters}
+use Rattle.script_play.specs.Entering.{Enters}
 use Rattle.script_play.specs.Player.{PlayerStands}
 use Rattle.script_play.specs.Writing.{Broke, Stops, Wrote}
 use Rattle.script_play.proofs.PlayedLemmas.{grows_none, stops_later}

@@ -1,5 +1,5 @@
 -- What entering an event leaves, and writing what is printed of it.
-use Rattle.std.proofs.Common.{ℕ, ◌≡◌, IsTrue, List, [], ◌∷◌, ◌++◌}
+use Rattle.std.proofs.Common.{ℕ, ◌≡◌, IsTrue, List, [], ◌∷◌}
 use Rattle.std.proofs.Common.{◌∙◌, refl, sym, subst, append-nil, Option, Some, None}
 use Rattle.std.proofs.Common.{Result, Ok, Err}
 use Rattle.std.proofs.lemmas.Bool.{false≢true}

@@ -9,7 +9,6 @@ use Rattle.book_history.specs.declared.outcomes.NotRead.TheVariants as not_read
 use Rattle.book_history.specs.Entries.{Entry, History}
 use Rattle.book_history.specs.Entries.Entry.{ReloadRefused}
 use Rattle.answer_texts.specs.Shown.{shown}
-use Rattle.script_grammar.specs.Events.{Reload}
 use Rattle.text_history.specs.Configured.{AreTextSlots, IsConfigAt}
 use Rattle.text_history.specs.Plays.{IsReload, no_memory, read, refused}
 use Rattle.script_play.specs.declared.halt.Halt.{Halt}

@@ -1,5 +1,5 @@
 -- What entering an event leaves.
-use Rattle.std.specs.Prelude.{ℕ, ◌≡◌, IsTrue, List, [], ◌∷◌, ◌++◌, Option, Result, Ok, Err}
+use Rattle.std.specs.Prelude.{ℕ, ◌≡◌, IsTrue, List, ◌∷◌, ◌++◌, Option, Result, Ok, Err}
 use Rattle.outside.specs.Seen.{SinkSeen}
 use Rattle.outside.specs.Told.{CountsOne, Grows}
 use Rattle.config_model.specs.Sections.{Sections}

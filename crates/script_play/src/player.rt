@@ -94,7 +94,7 @@ impl Player {
         match event {
             Event::Drain { n } => self.drain(*n, output),
             Event::Reload { path } => self.enter_reload(files, path, output),
-            event => self.enter_one(event, output),
+            _ => self.enter_one(event, output),
         }
     }
 

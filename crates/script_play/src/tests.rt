@@ -7,6 +7,7 @@ use std::alloc::Global;
 use std::test::Fail;
 
 mod playing;
+mod refreshing;
 mod reloads;
 mod stopping;
 

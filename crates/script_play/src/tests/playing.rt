@@ -9,7 +9,7 @@ const STARTED: &str = "go 1\npeer\nup\n";
 // What a story shows, its file, its script behind `START`, and its output behind `STARTED`.
 type Story = (&'static str, &'static str, &'static str, &'static str);
 
-const ROUTES: [Story; 5] = [
+const ROUTES: [Story; 6] = [
     (
         "a route comes, and goes",
         ONE,
@@ -58,6 +58,25 @@ const ROUTES: [Story; 5] = [
          update 0 last M00170200000000\n\
          update 0 last M0036020000001B40010100400206020100\
          00FDE9400304C000020180040400000003180A0001\n\
+         nothing\n",
+    ),
+    (
+        "a session that goes down within a batch, and comes up with fewer families",
+        ONE,
+        "down 0\npeer 0\nup 0 ipv4 ipv6\n\
+         line 0 1 announce route 10.0.0.0/24 next-hop 192.0.2.1 med 1\n\
+         line 0 1 announce route 10.0.1.0/24 next-hop 192.0.2.1 med 2\n\
+         line 0 1 announce route 2001:db8::/32 next-hop 2001:db8::1\n\
+         cut 0\ndown 0\npeer 0\nup 0 ipv4\ndrain 0\n",
+        "ok\npeer\nup\ndone\ndone\ndone\n\
+         update 0 more M0036020000001B40010100400206020100\
+         00FDE9400304C000020180040400000001180A0000\n\
+         ok\npeer\nup\n\
+         update 0 more M0036020000001B40010100400206020100\
+         00FDE9400304C000020180040400000001180A0000\n\
+         update 0 more M0036020000001B40010100400206020100\
+         00FDE9400304C000020180040400000002180A0001\n\
+         update 0 last M00170200000000\n\
          nothing\n",
     ),
     (

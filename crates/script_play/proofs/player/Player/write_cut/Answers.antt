@@ -1,4 +1,4 @@
-use Rattle.std.proofs.Common.{◌∙◌, ap}
+use Rattle.std.proofs.Common.{◌∙◌}
 use Rattle.outside.specs.Seen.{sink_seen}
 use Rattle.script_play.proofs.DrainLemmas.{cut_unput, cut_written}
 use Rattle.script_play.proofs.player.Player.write_cut.Goals as goal
