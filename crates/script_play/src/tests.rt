@@ -1,5 +1,4 @@
 //! Scripts and lines, from memory to memory.
-//! Scripts, played from memory to memory.
 use crate::{Status, play};
 use config_model::{Config, MAX_HELPERS, MAX_PEERS, Slots};
 use config_reader::{ConfigError, read_config};

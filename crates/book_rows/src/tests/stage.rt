@@ -15,7 +15,7 @@ use std::test::Fail;
 use text_forms::Line;
 
 // The helper slot of all stories.
-const HELPER: usize = 0;
+pub const HELPER: usize = 0;
 
 // How many bytes a buffer has room for that serves every session.
 const ROOM: usize = 65_535;
@@ -41,7 +41,7 @@ pub fn play(rt: &HostRuntime, file: &str, parts: &[&[Step]]) -> Result<(), Fail>
 }
 
 // What a file says.
-fn read(alloc: Global, file: &str) -> Result<Config, ConfigError> {
+pub fn read(alloc: Global, file: &str) -> Result<Config, ConfigError> {
     let slots = Slots {
         helpers: MAX_HELPERS,
         peers: MAX_PEERS,
@@ -71,7 +71,7 @@ impl Stage {
     }
 
     // Plays one event.
-    fn step(&mut self, event: &Event, wanted: &str) -> Result<(), Fail> {
+    pub fn step(&mut self, event: &Event, wanted: &str) -> Result<(), Fail> {
         let told = self.tell(event)?;
         expect(self.alloc, told.as_str(), wanted)
     }
