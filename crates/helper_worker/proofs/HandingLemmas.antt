@@ -26,6 +26,7 @@ use Rattle.helper_worker.specs.Handing.{is_reply}
 use Rattle.helper_worker.specs.Handing.{is_stop, lasts_for, replies_for, text_for, under}
 use Rattle.helper_worker.specs.Replies.{Answers, IsReplyOf, Wrote, deaf_by, is_last, lasts_by, text_by, text_of}
 use Rattle.helper_worker.specs.Serving.{IsFreshFor, ServesOne}
+use Rattle.helper_worker.proofs.ReplyLemmas.{any_last}
 use Rattle.helper_worker.proofs.RunLemmas.{or_false}
 
 or_true : (test : Bool) → (test || true) ≡ true
@@ -252,7 +253,8 @@ module _ {A : Type 0} where
         subst (λ (text : List ℕ). IsFront taken' faults text) (sym text)
             (front_of taken taken' faults answers.text none answers.wrote),
         lasts_more inc (own pass) made (under writer seen) all
-            (any_same (IsReplyOf h inc) (lasts_for inc) lasts_by (lasts_same h inc) made run.only ∙ run.last_is),
+            (any_same (IsReplyOf h inc) (lasts_for inc) lasts_by (lasts_same h inc) made run.only
+            ∙ any_last made run.ends),
         λ deafened no_fault.
             let some =
             answers.why_deaf

@@ -16,10 +16,42 @@ use Rattle.book_history.specs.Entries.Entry.{HelperDeaf, RepliesTaken}
 use Rattle.book_gate.specs.Calls.{Enters}
 use Rattle.book_gate.specs.Known.{Known}
 use Rattle.pass_entries.proofs.MakingLemmas.{makes_more, makes_none, makes_one}
-use Rattle.helper_worker.specs.Replies.{Answers, IsReplyOf, ReplyRun, TakesReplies, deaf_by, is_last, lasts_by}
+use Rattle.helper_worker.specs.Replies.{AreTaken, IfLast, Answers, IsReplyOf, ReplyRun, TakesReplies, deaf_by}
+use Rattle.helper_worker.specs.Replies.{is_last, lasts_by}
 use Rattle.helper_worker.specs.Replies.{text_by, text_of}
 use Rattle.helper_worker.proofs.HeardLemmas.{grows_none}
-use Rattle.helper_worker.proofs.RunLemmas.{or_false}
+
+-- no entry behind the last
+abbrev nothing : List Entry
+nothing = []
+
+ends_one : (last : Bool) → IfLast last ((nothing ≡ []) × (last ≡ true)) (last ≡ false)
+ends_one true = (refl, refl)
+ends_one false = refl
+
+more_comes : (test : Bool) (ends more ends' more' : Type 0) → IfLast test ends more → (ends → ⊥) → (more → more')
+    → IfLast test ends' more'
+more_comes true ends more ends' more' holds never next = absurd (never holds)
+more_comes false ends more ends' more' holds never next = next holds
+
+taken_both : (front back : List Entry) (last : Bool) → AreTaken front false → AreTaken back last
+    → AreTaken (front ++ back) last
+taken_both [] back last one other = other
+taken_both (entry ∷ front) back last one other =
+    more_comes (lasts_by entry) ((front ≡ []) × (false ≡ true)) (AreTaken front false)
+    ((front ++ back ≡ []) × (last ≡ true)) (AreTaken (front ++ back) last) one (λ never. true≢false (sym never.1))
+    (λ rest. taken_both front back last rest other)
+
+any_more : (test rest : Bool) (ends more : Type 0) → IfLast test ends more → (more → rest ≡ true)
+    → (test || rest) ≡ true
+any_more true rest ends more holds next = refl
+any_more false rest ends more holds next = next holds
+
+pub any_last : (all : List Entry) → AreTaken all true → list_any lasts_by all ≡ true
+any_last [] ends = absurd (true≢false ends)
+any_last (entry ∷ more) ends =
+    any_more (lasts_by entry) (list_any lasts_by more) ((more ≡ []) × (true ≡ true)) (AreTaken more true) ends
+    (any_last more)
 
 run_taken : (h inc : ℕ) (given : Take)
     → ReplyRun h inc (text_of given) (is_last given) false (RepliesTaken h inc given ∷ [])
@@ -27,7 +59,7 @@ run_taken h inc given =
     record {
       only = All-cons (IsReplyOf h inc) (RepliesTaken h inc given) [] (inl (given, refl)) (All-nil (IsReplyOf h inc));
       text_is = append-nil (text_of given);
-      last_is = or_false (is_last given);
+      ends = ends_one (is_last given);
       deaf_is = refl;
     }
 
@@ -36,7 +68,7 @@ run_deaf h inc =
     record {
       only = All-cons (IsReplyOf h inc) (HelperDeaf h inc) [] (inr refl) (All-nil (IsReplyOf h inc));
       text_is = refl;
-      last_is = refl;
+      ends = (refl, refl);
       deaf_is = refl;
     }
 
@@ -49,7 +81,7 @@ run_both h inc first second last gone_deaf front back one other =
       text_is =
           flat_map-append text_by front back
           ∙ ap₂ (λ (text next : List ℕ). text ++ next) one.text_is other.text_is;
-      last_is = list_any-append lasts_by front back ∙ ap₂ (λ (one two : Bool). one || two) one.last_is other.last_is;
+      ends = taken_both front back last one.ends other.ends;
       deaf_is = list_any-append deaf_by front back ∙ ap₂ (λ (one two : Bool). one || two) one.deaf_is other.deaf_is;
     }
 
@@ -74,7 +106,7 @@ module _ {A : Type 0} where
             record {
               entries = [];
               makes = makes_none pass;
-              run = record { only = All-nil (IsReplyOf h inc); text_is = refl; last_is = refl; deaf_is = refl };
+              run = record { only = All-nil (IsReplyOf h inc); text_is = refl; ends = refl; deaf_is = refl };
             };
         grows = grows_none told;
       }

@@ -1,5 +1,5 @@
 -- The replies of one incarnation of a helper, as they are taken and written.
-use Rattle.std.specs.Prelude.{ℕ, ◌≡◌, ◌⊎◌, ◌<◌, Bool, true, false, List, [], ◌++◌}
+use Rattle.std.specs.Prelude.{ℕ, ◌≡◌, ◌⊎◌, ◌<◌, Bool, true, false, List, [], ◌∷◌, ◌++◌}
 use Rattle.std.specs.List.{All, flat_map, list_any}
 use Rattle.std.specs.declared.option.Option.{Option}
 use Rattle.outside.specs.Told.{Grows}
@@ -36,6 +36,16 @@ lasts_by (RepliesTaken h inc given) = is_last given
 lasts_by (HelperDeaf h inc) = true
 lasts_by _ = false
 
+-- what holds where nothing more comes, and where more may come
+abbrev pub IfLast : Bool → Type 0 → Type 0 → Type 0
+IfLast true last more = last
+IfLast false last more = more
+
+-- nothing comes behind the last of these entries, and only behind the last; or more may come behind all
+abbrev pub AreTaken : List Entry → Bool → Type 0
+AreTaken [] last = last ≡ false
+AreTaken (entry ∷ more) last = IfLast (lasts_by entry) ((more ≡ []) × (last ≡ true)) (AreTaken more last)
+
 -- whether it tells that a helper no longer reads its replies
 abbrev pub deaf_by : Entry → Bool
 deaf_by (HelperDeaf h inc) = true
@@ -45,7 +55,7 @@ deaf_by _ = false
 pub record ReplyRun (h inc : ℕ) (text : List ℕ) (last gone_deaf : Bool) (entries : List Entry) : Type 0 where
   pub only : All (IsReplyOf h inc) entries
   pub text_is : flat_map text_by entries ≡ text
-  pub last_is : list_any lasts_by entries ≡ last
+  pub ends : AreTaken entries last
   pub deaf_is : list_any deaf_by entries ≡ gone_deaf
 
 -- a sink took the front of a text, and all of it unless it has failed

@@ -25,8 +25,6 @@ mod tests;
 mod texts;
 mod visiting;
 
-pub use errand::{Errand, Off, Return};
-pub use handover::{Fetched, Handover, Unhanded};
 pub use pairing::{Apart, Pair, make_pair, take_apart};
 pub use reader::Reader;
 pub use replier::Replier;

@@ -7,6 +7,7 @@ ghost use Rattle.helper_worker.specs.Rounds.{ReadsOut, told};
 
 use crate::handover::Handover;
 use crate::reading::read_helpers;
+use crate::ringing::ring_all;
 use book_core::{Book, StopCall};
 use book_gate::{Gate, GateName, Pass};
 use line_cutter::LineCutter;
@@ -123,6 +124,7 @@ impl<'g, S: Spawner, C: Clock, P: Pause, N: GateName> Reader<'g, S, C, P, N> {
     {
         self.gate.enter(rt, &mut self.pass, StopCall);
         self.end(rt);
+        ring_all(self.pause, self.h);
     }
 
     // Tells the replier that nothing more is handed over.

@@ -8,6 +8,7 @@ ghost use Rattle.helper_worker.specs.Serving.{CallsOff, IsFreshBehind, Refuses, 
 
 use crate::errand::{Errand, Off};
 use crate::handover::{Fetched, Handover};
+use crate::ringing::ring_all;
 use crate::serving::{deafen, serve};
 use book_core::{Book, StopCall};
 use book_gate::{Gate, GateName, Pass};
@@ -100,6 +101,7 @@ pub fn refuse<R: Wait, P: Pause, K: Sink + Drop, L: Leash + Drop, N: GateName>(
     let found = handover.call_off(rt, off);
     refuse_one(rt, gate, pass, h, handover, last, found);
     pause.at(Seat::Reader(h)).ring();
+    ring_all(pause, h);
 }
 
 // Ends the daemon.

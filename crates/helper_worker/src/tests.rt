@@ -2,13 +2,13 @@
 ghost use Rattle.std.specs.Prelude.{◌≡◌, [], IfOk};
 ghost use Rattle.pass_entries.specs.Making.{own};
 
-use crate::{Pair, make_pair, take_apart};
+use crate::{Apart, Pair, Reader, Replier, make_pair, take_apart};
 use arrayvec::ArrayVec;
 use book_core::{Book, ControlCall};
 use book_gate::{Gate, GateName, Opened, Pass};
 use book_history::Control;
 use config_model::{Config, Draft, Process, check};
-use outside::{MemoryPause, MemorySpawner, ReadyChild, Script, StillClock};
+use outside::{MemoryPause, MemorySpawner, Pause, ReadyChild, Script, Spawner, StillClock};
 use std::alloc::Global;
 use std::hash::RandomState;
 use std::marker::Brand;
@@ -19,7 +19,7 @@ use std::thread;
 use std::thread::Threads;
 
 // What a helper writes that ends the daemon, and then begins a line that it doesn't end.
-const LAST: &[u8] = b"announce route 10.0.0.0/24 next-hop 192.0.2.1\nfoo\nshutdown\nfoo";
+const LAST: &[u8] = b"reload\nfoo\nshutdown\nfoo";
 
 fn bytes<const N: usize>(text: &[u8]) -> ArrayVec<u8, N> {
     let mut bytes = ArrayVec::new();
@@ -67,24 +67,38 @@ fn split(gate: &Gate<Book>, pass: &mut Pass<Book>) -> Result<Pass<Book>, Fail>
     }
 }
 
-// Runs both jobs beside each other, or calls them off.
-fn work<'a, R: Threads + Wait + Sync, N: GateName + Send>(
+// Runs both jobs beside each other.
+fn run_both<'g, R: Threads + Wait + Sync, S: Spawner + Send, P: Pause + Send, N: GateName + Send>(
+    rt: &R,
+    reader: &mut Reader<'g, S, StillClock, P, N>,
+    replier: &mut Replier<'g, S, P, N>,
+) {
+    thread::join(rt, || reader.run(rt), || replier.run(rt));
+}
+
+// Runs both jobs of the first slot, or calls them off, and gives the spawner back.
+fn work<
+    R: Threads + Wait + Sync,
+    S: Spawner + Drop + Send,
+    P: Pause + Drop + Send,
+    N: GateName + Send,
+>(
     rt: &R,
     alloc: Global,
     gate: &Gate<Book>,
-    spawner: MemorySpawner<'a>,
+    spawner: S,
+    pause: P,
     reading: Pass<Book>,
     writing: Pass<Book>,
     runs: bool,
-) -> Result<MemorySpawner<'a>, Fail>
+) -> Result<S, Fail>
     requires named { gate.now ≡ N.gate }
     requires reading { reading.gate ≡ gate.now }
     requires writing { writing.gate ≡ gate.now }
     requires name { writing.name ≡ N.writer }
     requires new { own writing ≡ [] }
 {
-    let pause = MemoryPause::new(&[]);
-    let pair = make_pair::<_, _, _, N>(
+    let pair: Result<Pair<'_, S, StillClock, P, N>, Apart<S>> = make_pair(
         alloc, gate, 0, spawner, StillClock, pause, reading, writing,
     );
     let Ok(pair) = pair else {
@@ -94,39 +108,30 @@ fn work<'a, R: Threads + Wait + Sync, N: GateName + Send>(
         mut reader,
         mut replier,
     } = pair;
-    if !runs {
+    if runs {
+        run_both(rt, &mut reader, &mut replier);
+    } else {
         replier.call_off(rt);
         reader.call_off(rt);
-        return Ok(take_apart(reader, replier).spawner);
     }
-    let (reader, replier) = thread::join(
-        rt,
-        move || {
-            reader.run(rt);
-            reader
-        },
-        move || {
-            replier.run(rt);
-            replier
-        },
-    );
     Ok(take_apart(reader, replier).spawner)
 }
 
 // What is left of both jobs of the first slot, and whether the daemon is then to end.
-fn worked<'a, R: Threads + Wait + Sync>(
+fn worked<R: Threads + Wait + Sync, S: Spawner + Drop + Send, P: Pause + Drop + Send>(
     rt: &R,
     alloc: Global,
     opened: Opened<Book>,
-    spawner: MemorySpawner<'a>,
+    spawner: S,
+    pause: P,
     runs: bool,
-) -> Result<(MemorySpawner<'a>, bool), Fail>
+) -> Result<(S, bool), Fail>
     requires { opened.pass.gate ≡ opened.gate }
 {
     let Opened { gate, mut pass } = opened;
     let reading = split(&gate, &mut pass)?;
     let writing = split(&gate, &mut pass)?;
-    let spawner = work::<R, Brand>(rt, alloc, &gate, spawner, reading, writing, runs)?;
+    let spawner = work::<R, S, P, Brand>(rt, alloc, &gate, spawner, pause, reading, writing, runs)?;
     let ends = matches!(gate.enter(rt, &mut pass, ControlCall), Control::Stop);
     Ok((spawner, ends))
 }
@@ -168,9 +173,16 @@ fn took(spawner: &MemorySpawner<'_>, text: &[u8]) -> bool {
 #[test]
 fn a_helper_is_heard_and_answered_until_it_ends_the_daemon(rt: HostRuntime) -> Result<(), Fail> {
     let made = spawner(rt.alloc(), Script::new(), &[])?;
-    let (left, ends) = worked(&rt, rt.alloc(), opened(&rt)?, made, true)?;
+    let (left, ends) = worked(
+        &rt,
+        rt.alloc(),
+        opened(&rt)?,
+        made,
+        MemoryPause::new(&[]),
+        true,
+    )?;
     assert_eq!(rt; counts(&left), (1, Some(0), 1, 0));
-    assert!(rt; took(&left, b"done\nerror token 1\ndone\n"));
+    assert!(rt; took(&left, b"done\nerror\ndone\n"));
     assert!(rt; ends);
     Ok(())
 }
@@ -178,7 +190,14 @@ fn a_helper_is_heard_and_answered_until_it_ends_the_daemon(rt: HostRuntime) -> R
 #[test]
 fn a_helper_that_is_not_started_is_asked_for_again(rt: HostRuntime) -> Result<(), Fail> {
     let made = spawner(rt.alloc(), Script::new(), &[0])?;
-    let (left, ends) = worked(&rt, rt.alloc(), opened(&rt)?, made, true)?;
+    let (left, ends) = worked(
+        &rt,
+        rt.alloc(),
+        opened(&rt)?,
+        made,
+        MemoryPause::new(&[]),
+        true,
+    )?;
     assert_eq!(rt; counts(&left), (2, Some(1), 1, 1));
     assert!(rt; ends);
     Ok(())
@@ -191,7 +210,14 @@ fn a_helper_that_cannot_be_answered_is_given_back(rt: HostRuntime) -> Result<(),
         ..Script::new()
     };
     let made = spawner(rt.alloc(), script, &[])?;
-    let (left, ends) = worked(&rt, rt.alloc(), opened(&rt)?, made, true)?;
+    let (left, ends) = worked(
+        &rt,
+        rt.alloc(),
+        opened(&rt)?,
+        made,
+        MemoryPause::new(&[]),
+        true,
+    )?;
     assert_eq!(rt; left.faults(), 1);
     assert!(rt; ends);
     Ok(())
@@ -200,7 +226,14 @@ fn a_helper_that_cannot_be_answered_is_given_back(rt: HostRuntime) -> Result<(),
 #[test]
 fn jobs_that_are_called_off_end_the_daemon(rt: HostRuntime) -> Result<(), Fail> {
     let made = spawner(rt.alloc(), Script::new(), &[])?;
-    let (left, ends) = worked(&rt, rt.alloc(), opened(&rt)?, made, false)?;
+    let (left, ends) = worked(
+        &rt,
+        rt.alloc(),
+        opened(&rt)?,
+        made,
+        MemoryPause::new(&[]),
+        false,
+    )?;
     assert_eq!(rt; counts(&left), (0, Some(0), 0, 0));
     assert!(rt; ends);
     Ok(())
