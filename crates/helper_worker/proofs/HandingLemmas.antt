@@ -1,20 +1,19 @@
 -- What the entries of a replier tell of a sink.
 use Rattle.std.proofs.Common.{ℕ, ◌≡◌, ◌⊎◌, ◌<◌, Bool, true, false, true≢false, ◌||◌, ◌&&◌, ◌==◌, cond, List, [], ◌∷◌}
 use Rattle.std.proofs.Common.{◌++◌, take, length}
-use Rattle.std.proofs.Common.{Option, Some, None, inl, inr, refl, ap, ap₂, sym, subst, ◌∙◌, append_assoc, append-nil}
+use Rattle.std.proofs.Common.{Option, Some, None, inl, inr, refl, ap, ap₂, sym, subst, ◌∙◌, append-nil}
 use Rattle.std.proofs.Common.{arith, eq-eqb, ne_eqb}
 use Rattle.std.proofs.lemmas.List.{map-append}
 use Rattle.std.proofs.lemmas.List.Concat.{flat_map-append}
-use Rattle.std.proofs.lemmas.List.Elements.{All-head, All-tail, filter-append}
+use Rattle.std.proofs.lemmas.List.Elements.{All-head, All-tail}
 use Rattle.std.proofs.lemmas.List.Folds.{list_any-append}
 use Rattle.std.specs.List.{All, flat_map, list_any}
 use mathlib.Core.List.{IsPrefix}
 use Rattle.outside.specs.Told.{Grows}
 use Rattle.arrayvec.specs.ArrayVec.{ArrayVec}
 use Rattle.book_history.specs.declared.outcomes.Spawn.TheVariants as spawn
-use Rattle.book_history.specs.declared.outcomes.Take.{Take}
 use Rattle.book_history.specs.Entries.{Entry}
-use Rattle.book_history.specs.Entries.Entry.{HelperDeaf, RepliesTaken, SpawnAsked, Stopped}
+use Rattle.book_history.specs.Entries.Entry.{HelperDeaf, SpawnAsked, Stopped}
 use Rattle.book_gate.specs.Calls.{Enters, Learns}
 use Rattle.book_gate.specs.Histories.{entries, entries_by, is_name, signed}
 use Rattle.book_gate.specs.Known.{Glimpsed, Known}

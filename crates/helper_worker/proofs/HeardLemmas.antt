@@ -1,5 +1,5 @@
 -- What a source gave, entered piece by piece.
-use Rattle.std.proofs.Common.{ℕ, ◌≡◌, ◌⊎◌, ◌<◌, Bool, true, false, true≢false, List, [], ◌∷◌, ◌++◌, Option, Some}
+use Rattle.std.proofs.Common.{ℕ, ◌≡◌, ◌⊎◌, ◌<◌, Bool, true, false, true≢false, List, [], ◌++◌, Option, Some}
 use Rattle.std.proofs.Common.{None, inl, inr}
 use Rattle.std.proofs.Common.{refl, ap, sym, subst, ◌∙◌, append_assoc, append-nil}
 use Rattle.text_forms.specs.Lines.{Line, lines}

@@ -11,7 +11,7 @@ use Rattle.line_cutter.proofs.ChunkingLemmas.{cut_passes, cut_takes}
 use Rattle.line_cutter.proofs.UnfinishedLemmas.{lines_stay}
 use Rattle.book_history.specs.Entries.{Entry}
 use Rattle.book_gate.specs.Known.{Known}
-use Rattle.helper_worker.specs.Lines.{EntersLine, EntersLines, EntersPiece}
+use Rattle.helper_worker.specs.Lines.{EntersLine, EntersPiece}
 use Rattle.helper_worker.proofs.RunLemmas.{lines_both, lines_none}
 
 -- what is gone of a piece, and what is left

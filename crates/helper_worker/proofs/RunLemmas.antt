@@ -1,7 +1,6 @@
 -- Line entries, one behind the other.
 use Rattle.std.proofs.Common.{ℕ, zero, suc, ◌≡◌, Bool, true, false, true≢false, ◌||◌, List, [], ◌∷◌, ◌++◌, Result}
-use Rattle.std.proofs.Common.{map, replicate, refl, ap, ap₂, sym, subst, ◌∙◌, append-nil}
-use Rattle.std.specs.List.{flat_map}
+use Rattle.std.proofs.Common.{replicate, refl, ap, ap₂, sym, subst, ◌∙◌, append-nil}
 use Rattle.std.proofs.lemmas.List.{map-append}
 use Rattle.std.proofs.lemmas.List.Concat.{flat_map-append}
 use Rattle.text_forms.specs.Lines.{Line}

@@ -1,6 +1,6 @@
 -- One helper of a reader.
 use Rattle.std.proofs.Common.{ℕ, ◌≡◌, Bool, true, false, true≢false, List, [], ◌∷◌, ◌++◌, Option, Some, None, IfSome}
-use Rattle.std.proofs.Common.{map, inl, inr, arith, ◌+◌, refl, ap, sym, subst, ◌∙◌, append_assoc, append-nil}
+use Rattle.std.proofs.Common.{map, inl, inr, arith, ◌+◌, ap, sym, subst, ◌∙◌, append_assoc, append-nil}
 use Rattle.std.proofs.lemmas.List.{map-append}
 use mathlib.Core.List.{IsPrefix}
 use Rattle.outside.specs.Ended.{EndedChild, Gathers, child_of}
@@ -12,7 +12,7 @@ use Rattle.book_gate.specs.Calls.{Enters, Learns}
 use Rattle.book_gate.specs.Known.{Glimpsed, Known}
 use Rattle.book_gate.specs.declared.view.Signed.{Signed}
 use Rattle.pass_entries.specs.Making.{Makes}
-use Rattle.pass_entries.proofs.MakingLemmas.{makes_learned, makes_more, makes_none, makes_one}
+use Rattle.pass_entries.proofs.MakingLemmas.{makes_more, makes_none, makes_one}
 use Rattle.helper_worker.specs.Handing.{HasStop, IsAnswered, TookNothing}
 use Rattle.helper_worker.specs.Hearing.{Hears}
 use Rattle.helper_worker.specs.Rounds.{Attends, Ends, GathersAll, HearsOut, IsSinkBack, Outcome, Visits, ends_of, told}

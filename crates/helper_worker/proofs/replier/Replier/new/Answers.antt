@@ -1,4 +1,3 @@
-use Rattle.std.proofs.Common.{refl}
 use Rattle.helper_worker.proofs.ServingLemmas.{fresh_none}
 use Rattle.helper_worker.proofs.replier.Replier.new.Goals as goal
 
