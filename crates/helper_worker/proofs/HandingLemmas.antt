@@ -28,7 +28,7 @@ use Rattle.helper_worker.specs.Serving.{IsFreshFor, ServesOne}
 use Rattle.helper_worker.proofs.ReplyLemmas.{any_last}
 use Rattle.helper_worker.proofs.RunLemmas.{or_false}
 
-or_true : (test : Bool) → (test || true) ≡ true
+pub or_true : (test : Bool) → (test || true) ≡ true
 or_true true = refl
 or_true false = refl
 
@@ -45,7 +45,7 @@ module _ (P : Entry → Type 0) where
       ap₂ (λ (front back : List ℕ). front ++ back) (same entry (All-head P entry more are))
       (flat_same f g same more (All-tail P entry more are))
 
-  any_same : (f g : Entry → Bool) → ((entry : Entry) → P entry → f entry ≡ g entry) → (all : List Entry) → All P all
+  pub any_same : (f g : Entry → Bool) → ((entry : Entry) → P entry → f entry ≡ g entry) → (all : List Entry) → All P all
       → list_any f all ≡ list_any g all
   any_same f g same [] are = refl
   any_same f g same (entry ∷ more) are =
@@ -72,7 +72,7 @@ text_same h inc entry (inl (given, is)) =
     ap (text_for inc) is ∙ (ap (λ test. cond test (text_of given) []) (eq-eqb inc inc refl) ∙ sym (ap text_by is))
 text_same h inc entry (inr is) = ap (text_for inc) is ∙ sym (ap text_by is)
 
-lasts_same : (h inc : ℕ) (entry : Entry) → IsReplyOf h inc entry → lasts_for inc entry ≡ lasts_by entry
+pub lasts_same : (h inc : ℕ) (entry : Entry) → IsReplyOf h inc entry → lasts_for inc entry ≡ lasts_by entry
 lasts_same h inc entry (inl (given, is)) =
     ap (lasts_for inc) is ∙ (ap (λ test. test && is_last given) (eq-eqb inc inc refl) ∙ sym (ap lasts_by is))
 lasts_same h inc entry (inr is) = ap (lasts_for inc) is ∙ (eq-eqb inc inc refl ∙ sym (ap lasts_by is))
@@ -143,7 +143,7 @@ pub stop_stays : (seen seen' : List (Signed Entry)) → IsPrefix seen seen' → 
 stop_stays seen seen' more stops = any_stays is_stop seen seen' more stops
 
 -- the entries under a name that are of the replies of an incarnation
-any_under : (writer : List ℕ) (inc : ℕ) (seen : List (Signed Entry))
+pub any_under : (writer : List ℕ) (inc : ℕ) (seen : List (Signed Entry))
     → list_any (replies_for inc) (under writer seen) ≡ list_any (is_reply writer inc) seen
 any_under writer inc [] = refl
 any_under writer inc (made ∷ seen) =

@@ -6,3 +6,4 @@ pub mod HandingLemmas
 pub mod ServingLemmas
 pub mod VisitLemmas
 pub mod RoundLemmas
+pub mod StayLemmas

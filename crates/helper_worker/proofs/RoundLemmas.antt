@@ -59,7 +59,7 @@ module _ {X : Type 0} where
       next same (inr found) = inr (found.0, ap₂ (λ (head : X) (tail : List X). head ∷ tail) same found.1)
 
 -- the entries under a name in the front of a history
-under_prefix : (name : List ℕ) (front whole : List (Signed Entry)) → IsPrefix front whole
+pub under_prefix : (name : List ℕ) (front whole : List (Signed Entry)) → IsPrefix front whole
     → IsPrefix (under name front) (under name whole)
 under_prefix name front whole (rest, is) = (
   under name rest,

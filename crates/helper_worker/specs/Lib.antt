@@ -4,3 +4,4 @@ pub mod Replies
 pub mod Handing
 pub mod Serving
 pub mod Rounds
+pub mod Staying

@@ -11,6 +11,7 @@ mod answering;
 mod errand;
 mod handover;
 mod hearing;
+mod laws;
 mod line;
 mod pairing;
 mod piece;
@@ -25,6 +26,7 @@ mod tests;
 mod texts;
 mod visiting;
 
+pub use laws::answers_stay;
 pub use pairing::{Apart, Pair, make_pair, take_apart};
 pub use reader::Reader;
 pub use replier::Replier;
