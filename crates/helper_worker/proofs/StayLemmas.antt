@@ -1,7 +1,7 @@
 -- A replier takes nothing more for an incarnation behind its last entry.
-use Rattle.std.proofs.Common.{ℕ, ◌≡◌, ◌⊎◌, ◌<◌, ◌≤◌, Bool, true, false, true≢false, ◌||◌, ◌&&◌, ◌==◌, cond, List, []}
+use Rattle.std.proofs.Common.{ℕ, ◌≡◌, ◌⊎◌, ◌≤◌, Bool, true, false, true≢false, ◌||◌, ◌&&◌, ◌==◌, cond, List, []}
 use Rattle.std.proofs.Common.{◌∷◌}
-use Rattle.std.proofs.Common.{◌++◌, Option, inl, inr, refl, ap, ap₂, sym, subst, ◌∙◌, append_assoc, append-nil, arith}
+use Rattle.std.proofs.Common.{◌++◌, inl, inr, refl, ap, ap₂, sym, subst, ◌∙◌, append-nil, arith}
 use Rattle.std.proofs.Common.{eqb-true, ne_eqb}
 use Rattle.std.specs.List.{All, flat_map, list_any}
 use Rattle.std.proofs.lemmas.List.Concat.{flat_map-append}
@@ -10,7 +10,6 @@ use Rattle.std.proofs.lemmas.List.Folds.{list_any-append}
 use mathlib.Core.List.{IsPrefix}
 use Rattle.book_history.specs.Entries.{Entry}
 use Rattle.book_history.specs.Entries.Entry.{HelperDeaf, RepliesTaken}
-use Rattle.book_gate.specs.Histories.{entries}
 use Rattle.book_gate.specs.declared.view.Signed.{Signed}
 use Rattle.helper_worker.specs.Handing.{IsFront, deaf_for, is_early, is_go, is_reply, lasts_for, replies_for, text_for}
 use Rattle.helper_worker.specs.Handing.{under}
