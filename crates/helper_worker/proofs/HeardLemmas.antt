@@ -1,5 +1,6 @@
 -- What a source gave, entered piece by piece.
-use Rattle.std.proofs.Common.{ℕ, ◌≡◌, ◌⊎◌, ◌<◌, Bool, true, false, true≢false, List, [], ◌∷◌, ◌++◌, Option, Some, None, inl, inr}
+use Rattle.std.proofs.Common.{ℕ, ◌≡◌, ◌⊎◌, ◌<◌, Bool, true, false, true≢false, List, [], ◌++◌, Option, Some}
+use Rattle.std.proofs.Common.{None, inl, inr}
 use Rattle.std.proofs.Common.{refl, ap, sym, subst, ◌∙◌, append_assoc, append-nil}
 use Rattle.text_forms.specs.Lines.{Line, lines}
 use Rattle.line_cutter.specs.Chunking.{HasCut}
@@ -52,7 +53,7 @@ module _ {A : Type 0} where
         none = none;
         cut = subst (λ (passed : List Line). HasCut (heard.bytes ++ piece) passed held') (sym all) next.cut;
         enters =
-            subst (λ (taken : List Line). EntersLines pass h inc taken false later) (sym all)
+            subst (λ (texts : List Line). EntersLines pass h inc texts false later) (sym all)
             (lines_both pass between later h inc (lines heard.bytes) next.more false heard.enters next.enters);
       }
 
@@ -66,7 +67,7 @@ module _ {A : Type 0} where
       record {
         bytes = heard.bytes ++ piece;
         grows = grows_more given mid given' heard.bytes piece heard.grows grows;
-        taken = lines heard.bytes ++ next.front;
+        texts = lines heard.bytes ++ next.front;
         late = true;
         enters = lines_both pass between later h inc (lines heard.bytes) next.front true heard.enters next.enters;
         heard =
@@ -90,7 +91,7 @@ module _ {A : Type 0} where
         grows =
             subst (λ (all : List ℕ). Grows given given' all) (append-nil heard.bytes)
             (grows_more given mid given' heard.bytes [] heard.grows grows);
-        taken = lines heard.bytes;
+        texts = lines heard.bytes;
         late = false;
         enters = heard.enters;
         heard = record { front = ([], append-nil (lines heard.bytes)); whole = λ is. refl; why = inr why };

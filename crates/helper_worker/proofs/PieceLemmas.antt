@@ -1,5 +1,6 @@
 -- Lines that end in a piece, entered one by one.
-use Rattle.std.proofs.Common.{ℕ, ◌≡◌, ◌⊎◌, Bool, true, false, cond, List, [], ◌∷◌, ◌++◌, length, take, drop, Option, Some, None}
+use Rattle.std.proofs.Common.{ℕ, ◌≡◌, ◌⊎◌, Bool, true, false, cond, List, [], ◌∷◌, ◌++◌, length, take, drop, Option}
+use Rattle.std.proofs.Common.{Some, None}
 use Rattle.std.proofs.Common.{ap, sym, ◌∙◌, refl, subst, append_assoc, append-nil, arith, inl, inr}
 use Rattle.std.specs.Option.{option_to_list}
 use Rattle.std.proofs.lemmas.List.{take-append-drop, take_all}
@@ -10,7 +11,7 @@ use Rattle.line_cutter.proofs.ChunkingLemmas.{cut_passes, cut_takes}
 use Rattle.line_cutter.proofs.UnfinishedLemmas.{lines_stay}
 use Rattle.book_history.specs.Entries.{Entry}
 use Rattle.book_gate.specs.Known.{Known}
-use Rattle.helper_worker.specs.Lines.{EntersLine, EntersLines, EntersPiece}
+use Rattle.helper_worker.specs.Lines.{EntersLine, EntersPiece}
 use Rattle.helper_worker.proofs.RunLemmas.{lines_both, lines_none}
 
 -- what is gone of a piece, and what is left
@@ -88,7 +89,8 @@ module _ {A : Type 0} where
         more = before.more ++ line ∷ [];
         cut =
             subst (λ (all : List Line). HasCut (bytes ++ front) all held') (append_assoc passed before.more (line ∷ []))
-            (subst (λ (after : Cutting). HasCut (bytes ++ front) ((passed ++ before.more) ++ line ∷ []) after) (sym passes)
+            (subst (λ (after : Cutting). HasCut (bytes ++ front) ((passed ++ before.more) ++ line ∷ []) after)
+            (sym passes)
             (subst (λ (some : Option Line). HasCut (bytes ++ front) ((passed ++ before.more) ++ option_to_list some)
             (advanced then)) (sym stands)
             (cut_passes (bytes ++ front) (passed ++ before.more) then before.cut)));
@@ -104,19 +106,16 @@ module _ {A : Type 0} where
       let before = enters bytes passed cut in
       let stay = lines_stay (bytes ++ front) behind in
       record {
-        front = before.more;
-        behind = line ∷ stay.0;
+        front = before.more ++ line ∷ [];
+        behind = stay.0;
         lines_are =
             ap lines (ap (λ (last : List ℕ). bytes ++ last) is ∙ sym (append_assoc bytes front behind)) ∙ stay.1
             ∙ ap (λ (all : List Line). all ++ stay.0)
             (before.cut.lines_are
             ∙ ap (λ (some : Option Line). (passed ++ before.more) ++ option_to_list some) (sym stands)
             ∙ append_assoc passed before.more (line ∷ []))
-            ∙ append_assoc passed (before.more ++ line ∷ []) stay.0
-            ∙ ap (λ (all : List Line). passed ++ all) (append_assoc before.more (line ∷ []) stay.0);
-        enters =
-            subst (λ (taken : List Line). EntersLines pass h inc taken true later) (append-nil before.more)
-            (lines_both pass between later h inc before.more [] true before.enters one);
+            ∙ append_assoc passed (before.more ++ line ∷ []) stay.0;
+        enters = lines_both pass between later h inc before.more (line ∷ []) true before.enters one;
       }
 
   pub front_more : (pass between later : Known A Entry) (h inc : ℕ) (piece rest left : List ℕ) (line : Line)

@@ -1,5 +1,5 @@
 -- All that a helper writes.
-use Rattle.std.specs.Prelude.{ℕ, ◌≡◌, ◌⊎◌, ◌<◌, Bool, true, false, List, ◌++◌}
+use Rattle.std.specs.Prelude.{ℕ, ◌≡◌, ◌⊎◌, ◌<◌, Bool, true, false, List}
 use Rattle.std.specs.declared.option.Option.{Option}
 use mathlib.Core.List.{IsPrefix}
 use Rattle.text_forms.specs.Lines.{Line, lines}
@@ -8,10 +8,10 @@ use Rattle.book_history.specs.Entries.{Entry}
 use Rattle.book_gate.specs.Known.{Known}
 use Rattle.helper_worker.specs.Lines.{EntersLines}
 
--- which lines of bytes were taken, and why no more was read: one came too late, or the source ended or failed
-pub record IsHeard (bytes : List ℕ) (taken : List Line) (late ended : Bool) (faults : ℕ) : Type 0 where
-  pub front : IsPrefix taken (lines bytes)
-  pub whole : late ≡ false → taken ≡ lines bytes
+-- which lines of bytes were asked for, and why no more was read: the last came too late, or the source ended or failed
+pub record IsHeard (bytes : List ℕ) (texts : List Line) (late ended : Bool) (faults : ℕ) : Type 0 where
+  pub front : IsPrefix texts (lines bytes)
+  pub whole : late ≡ false → texts ≡ lines bytes
   pub why : (late ≡ true) ⊎ ((ended ≡ true) ⊎ (0 < faults))
 
 module _ {A : Type 0} where
@@ -20,7 +20,7 @@ module _ {A : Type 0} where
       (later : Known A Entry) : Type 0 where
     pub bytes : List ℕ
     pub grows : Grows given given' bytes
-    pub taken : List Line
+    pub texts : List Line
     pub late : Bool
-    pub enters : EntersLines pass h inc taken late later
-    pub heard : IsHeard bytes taken late ended faults
+    pub enters : EntersLines pass h inc texts late later
+    pub heard : IsHeard bytes texts late ended faults

@@ -1,6 +1,6 @@
 -- The line entries of one incarnation of a helper.
-use Rattle.std.specs.Prelude.{ℕ, ◌≡◌, Bool, true, false, List, [], ◌∷◌, ◌++◌, Result, not}
-use Rattle.std.specs.List.{All, flat_map, list_any}
+use Rattle.std.specs.Prelude.{ℕ, ◌≡◌, Bool, true, false, List, [], ◌∷◌, ◌++◌, Result, map, not, replicate}
+use Rattle.std.specs.List.{flat_map}
 use Rattle.text_forms.specs.Lines.{Line, lines}
 use Rattle.route_grammar.specs.declared.fault.ReadFault.{ReadFault}
 use Rattle.command_grammar.specs.declared.command.Command.{Command}
@@ -13,57 +13,52 @@ use Rattle.book_history.specs.Entries.Entry.{LineEntered}
 use Rattle.book_gate.specs.Known.{Known}
 use Rattle.pass_entries.specs.Making.{Makes}
 
--- an entry of some line of an incarnation
-pub record IsLineOf (h inc : ℕ) (entry : Entry) : Type 0 where
+-- a line that was asked for: how it reads, how often its replies found no room, and what it was answered then
+pub record Asked : Type 0 where
   pub line : Line
   pub reading : Result Command ReadFault
+  pub waits : ℕ
   pub given : Verdict
-  pub entry_is : entry ≡ LineEntered h inc line reading given
 
--- the line where it was taken: it isn't to be entered again, and didn't come too late
-abbrev pub taken_as : Verdict → Line → List Line
-taken_as verdict.Ended line = []
-taken_as verdict.Busy line = []
-taken_as (verdict.Error why) line = line ∷ []
-taken_as verdict.Done line = line ∷ []
+-- its entries: as long as its replies find no room it is entered again
+abbrev pub entries_for : ℕ → ℕ → Asked → List Entry
+entries_for h inc asked =
+    replicate asked.waits (LineEntered h inc asked.line asked.reading verdict.Busy)
+    ++ LineEntered h inc asked.line asked.reading asked.given ∷ []
 
-abbrev pub taken_by : Entry → List Line
-taken_by (LineEntered h inc line reading given) = taken_as given line
-taken_by _ = []
+abbrev pub line_in : Asked → Line
+line_in asked = asked.line
 
--- whether a line came too late
-abbrev pub is_late : Verdict → Bool
-is_late verdict.Ended = true
-is_late verdict.Busy = false
-is_late (verdict.Error why) = false
-is_late verdict.Done = false
+-- what holds behind an answer other than that there is no room: the line was taken, or it came too late
+abbrev pub GoesOn : Verdict → Type 0 → Type 0 → Type 0
+GoesOn verdict.Ended taken late = late
+GoesOn verdict.Busy taken late = ⊥
+GoesOn (verdict.Error why) taken late = taken
+GoesOn verdict.Done taken late = taken
 
-abbrev pub ends_by : Entry → Bool
-ends_by (LineEntered h inc line reading given) = is_late given
-ends_by _ = false
+-- all lines were taken; or all but the last, which came too late
+abbrev pub AreAsked : List Asked → Bool → Type 0
+AreAsked [] late = late ≡ false
+AreAsked (asked ∷ more) late = GoesOn asked.given (AreAsked more late) ((more ≡ []) × (late ≡ true))
 
--- line entries of one incarnation, by which these lines were taken, and of which one came too late or none
-pub record LineRun (h inc : ℕ) (taken : List Line) (late : Bool) (entries : List Entry) : Type 0 where
-  pub only : All (IsLineOf h inc) entries
-  pub taken_are : flat_map taken_by entries ≡ taken
-  pub late_is : list_any ends_by entries ≡ late
-
--- one line, if it was taken
-abbrev pub if_taken : Bool → Line → List Line
-if_taken true line = line ∷ []
-if_taken false line = []
+-- the entries of lines of one incarnation, one behind the other, of which the last came too late or none
+pub record LineRun (h inc : ℕ) (texts : List Line) (late : Bool) (entries : List Entry) : Type 0 where
+  pub asked : List Asked
+  pub entries_are : entries ≡ flat_map (entries_for h inc) asked
+  pub texts_are : map line_in asked ≡ texts
+  pub ends : AreAsked asked late
 
 module _ {A : Type 0} where
-  -- a pass made line entries of an incarnation
-  pub record EntersLines (pass : Known A Entry) (h inc : ℕ) (taken : List Line) (late : Bool) (later : Known A Entry)
+  -- a pass made the entries of lines of an incarnation
+  pub record EntersLines (pass : Known A Entry) (h inc : ℕ) (texts : List Line) (late : Bool) (later : Known A Entry)
       : Type 0 where
     pub entries : List Entry
     pub makes : Makes pass entries later
-    pub run : LineRun h inc taken late entries
+    pub run : LineRun h inc texts late entries
 
   -- a line was taken, or came too late
   abbrev pub EntersLine : Known A Entry → ℕ → ℕ → Line → Bool → Known A Entry → Type 0
-  EntersLine pass h inc line done later = EntersLines pass h inc (if_taken done line) (not done) later
+  EntersLine pass h inc line done later = EntersLines pass h inc (line ∷ []) (not done) later
 
   -- the lines that end in bytes were taken, but for those that were passed before
   pub record PieceTaken (pass : Known A Entry) (h inc : ℕ) (bytes : List ℕ) (passed : List Line) (held : Cutting)
@@ -72,7 +67,7 @@ module _ {A : Type 0} where
     pub cut : HasCut bytes (passed ++ more) held
     pub enters : EntersLines pass h inc more false later
 
-  -- some of these were taken, and the next came too late
+  -- some of these were asked for, of which the last came too late
   pub record PieceLate (pass : Known A Entry) (h inc : ℕ) (bytes : List ℕ) (passed : List Line)
       (later : Known A Entry) : Type 0 where
     pub front : List Line

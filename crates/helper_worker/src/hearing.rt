@@ -4,10 +4,11 @@ ghost use Rattle.config_model.specs.Limits.{max_helpers};
 ghost use Rattle.helper_worker.specs.Hearing.{Hears};
 
 use crate::piece::enter_piece;
+use crate::ringing::ring_all;
 use book_core::Book;
 use book_gate::{Gate, Pass};
 use line_cutter::LineCutter;
-use outside::{Pause, Read, Seat, Source};
+use outside::{Pause, Read, Source};
 use std::alloc::Global;
 use std::sync::Wait;
 
@@ -15,7 +16,7 @@ use std::sync::Wait;
 const BUFFER: usize = 65_536;
 
 /// Enters the lines of a source until it ends or fails, or it was answered that the helper has ended. Behind each piece
-/// the replier is rung for.
+/// those are rung for whom its lines may have given work.
 pub fn hear<R: Wait, P: Pause, S: Source>(
     rt: &R,
     alloc: Global,
@@ -40,7 +41,7 @@ pub fn hear<R: Wait, P: Pause, S: Source>(
                 if !enter_piece(rt, alloc, gate, pass, pause, h, inc, cutter, &buffer[..got]) {
                     return;
                 }
-                pause.at(Seat::Replier(h)).ring();
+                ring_all(pause, h);
             }
             Read::End => return,
             Read::Failed => return,

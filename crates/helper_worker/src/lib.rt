@@ -8,7 +8,25 @@
 #![tactic(auto)]
 
 mod answering;
+mod errand;
+mod handover;
 mod hearing;
+mod laws;
 mod line;
+mod pairing;
 mod piece;
+mod reader;
+mod reading;
+mod replier;
+mod replying;
+mod ringing;
+mod serving;
+#[cfg(test)]
+mod tests;
 mod texts;
+mod visiting;
+
+pub use laws::answers_stay;
+pub use pairing::{Apart, Pair, make_pair, take_apart};
+pub use reader::Reader;
+pub use replier::Replier;

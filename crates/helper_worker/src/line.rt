@@ -53,7 +53,15 @@ fn enter_read<R: Wait, P: Pause>(
     ensures { EntersLine pass.old h inc read.now.line result pass.new }
 {
     for _ in rt.forever() {
-        match gate.enter(rt, pass, LineCall { h, inc, read: &*read }) {
+        match gate.enter(
+            rt,
+            pass,
+            LineCall {
+                h,
+                inc,
+                read: &*read,
+            },
+        ) {
             Verdict::Done => return true,
             Verdict::Error(_) => return true,
             Verdict::Busy => {

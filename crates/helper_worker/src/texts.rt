@@ -10,7 +10,7 @@ use arrayvec::ArrayVec;
 // How many bytes the texts of as many replies have at most as are taken at once.
 const TEXTS_ROOM: usize = MAX_TAKEN * MAX_REPLY_TEXT;
 
-/// The texts of the replies that were taken last. The buffer stands in the job, and is used again and again.
+/// The texts of the replies that were taken last, in one buffer that is used again and again.
 #[derive(Drop)]
 pub struct Text {
     bytes: ArrayVec<u8, TEXTS_ROOM>,

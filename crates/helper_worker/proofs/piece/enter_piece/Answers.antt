@@ -15,8 +15,8 @@ enter_line-requires-clause-gate g c κs within = c.lines.invariant.gate ∙ c.re
 
 pub returns-then-not-enter_line-clause-piece : goal.returns-then-not-enter_line-clause-piece
 returns-then-not-enter_line-clause-piece g c =
-    front_late _ _ _ _ _ _ _ _ _ _ _ c.lines.cutter _ c.lines.invariant c.feed-count.ensures.count c.feed-count.ensures.taken
-    c.in-Some.ensures.exact c.if-not-enter_line.ensures
+    front_late _ _ _ _ _ _ _ _ _ _ _ c.lines.cutter _ c.lines.invariant c.feed-count.ensures.count
+    c.feed-count.ensures.taken c.in-Some.ensures.exact c.if-not-enter_line.ensures
 
 pub lines-preserved : goal.lines-preserved
 lines-preserved g c =
