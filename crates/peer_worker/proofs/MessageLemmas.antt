@@ -1,12 +1,17 @@
 -- What stands whole in front of a stream is a message of one of the five types.
-use Rattle.std.proofs.Common.{ℕ, ◌≡◌, ◌+◌, ◌≤◌, Bool, true, false, true≢false, List, length, refl, ap, sym, subst, ◌∙◌, arith}
+use Rattle.std.proofs.Common.{ℕ, zero, suc, ◌≡◌, ◌+◌, ◌-◌, ◌≤◌, min, Bool, true, false, true≢false, List, length, take, drop}
+use Rattle.std.proofs.Common.{refl, ap, sym, subst, ◌∙◌, arith, length-drop}
+use Rattle.std.proofs.lemmas.List.{take_rest}
+use Rattle.outside.specs.declared.link.Recv.{Recv}
+use Rattle.outside.specs.declared.link.Recv.TheVariants.{Got, End, Quiet, Failed}
+use Rattle.outside.specs.Receiving.{Receives, RecvCounts}
 use Rattle.std.specs.Prelude.{◌==◌, if◌then◌else◌, IsTrue, Option, Some, None, nat_le, ◌&&◌}
 use Rattle.std.proofs.lemmas.Bool.Decides.{nat_tests}
 use Rattle.frame_cutter.specs.declared.kinds.Lengths.{Lengths}
 use Rattle.frame_cutter.specs.Front.{Frame, has_length, is_sized}
 use Rattle.frame_cutter.specs.Frames.{greatest}
 use Rattle.frame_cutter.specs.Header.{is_within, lengths_of, range}
-use Rattle.peer_worker.specs.Hearing.{IsMessage}
+use Rattle.peer_worker.specs.Hearing.{IsMessage, IsWithin}
 
 within : (least most len : ℕ) → IsTrue (is_within (range least most) len) → (least ≤ len) × (len ≤ most)
 within least most len is = grind (arith, nat_tests, is)
@@ -81,3 +86,24 @@ pub is_message : (wide : Option ℕ) (kind : ℕ) (body : List ℕ)
 is_message wide kind body is =
     sized (kind == 1) (kind == 2) (kind == 3) (kind == 4) (kind == 5) (greatest wide) kind body (greatest_small wide)
     refl refl refl refl refl is
+
+-- no more is taken of a rest than it has
+pub fed_within : (piece : List ℕ) (taken count room : ℕ) → taken ≤ length piece
+    → count ≡ min (length (take (length piece - taken) (drop taken piece))) room → taken + count ≤ length piece
+fed_within piece taken count room within is =
+    let least : count ≡ min (length (drop taken piece)) room =
+    is ∙ ap (λ (rest : List ℕ). min (length rest) room) (take_rest piece taken) in
+    omega (arith, within, least, length-drop taken piece)
+
+pub recv_later : (before now : ℕ) (given : Recv) → RecvCounts before now given → before ≤ now
+recv_later before now (Got count) counts = omega (arith, counts)
+recv_later before now End counts = omega (arith, counts)
+recv_later before now Quiet counts = omega (arith, counts)
+recv_later before now Failed counts = counts.1
+
+pub recv_within : (old new : Option (List ℕ)) (into : List ℕ) (given : Recv) → Receives old new into given
+    → IsWithin given (length into)
+recv_within old new into (Got count) receives = receives.1
+recv_within old new into End receives = tt
+recv_within old new into Quiet receives = tt
+recv_within old new into Failed receives = tt

@@ -199,13 +199,22 @@ pub fn hear<R: Wait, L: Link, E: Ear>(
     let mut taken = 0;
     for _ in rt.forever() {
         let count = cutter.feed(&piece[taken..]);
-        if hear_all(rt, gate, pass, n, desk, voice, ear, machine, own, cutter) {
-            some = true;
-        }
+        let heard = hear_all(rt, gate, pass, n, desk, voice, ear, machine, own, cutter);
+        some = either(some, heard);
         taken += count;
-        if count == 0 || taken == piece.len() {
+        if is_done(count, piece.len() - taken) {
             return some;
         }
     }
     unreachable!()
+}
+
+// Whether one of the two holds.
+fn either(one: bool, other: bool) -> bool {
+    one || other
+}
+
+// Whether no more of a piece is taken, of which so many bytes were taken last and so many are left.
+fn is_done(count: usize, left: usize) -> bool {
+    count == 0 || left == 0
 }

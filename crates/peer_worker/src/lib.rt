@@ -18,4 +18,7 @@ mod timers;
 mod turns;
 mod voice;
 
+#[cfg(test)]
+mod tests;
+
 pub use talker::{Talker, TalkerParts};

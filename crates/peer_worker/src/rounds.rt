@@ -42,15 +42,22 @@ pub fn talk<R: Wait, D: Dialer, E: Ear, C: Clock, P: Pause>(
     for _ in rt.forever() {
         match gate.enter(rt, pass, PeerCall { n }) {
             Peer::Is(own) => {
-                if !visit(rt, gate, pass, n, desk, cutter, dialer, ear, clock, pause, own) {
-                    pause.rest(BACK_OFF);
-                }
+                let stopped =
+                    visit(rt, gate, pass, n, desk, cutter, dialer, ear, clock, pause, own);
+                rest_unless(pause, stopped);
             }
             Peer::Absent => pause.wait(ABSENT),
             Peer::Stopping => return,
         }
     }
     unreachable!()
+}
+
+// Rests before the neighbour is dialled again, unless the daemon ends.
+fn rest_unless<P: Pause>(pause: P, stopped: bool) {
+    if !stopped {
+        pause.rest(BACK_OFF);
+    }
 }
 
 /// Connects with these settings, talks, and gives the link back. Whether the session was ended because the daemon ends.

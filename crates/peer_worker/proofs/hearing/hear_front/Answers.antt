@@ -6,7 +6,7 @@ pub returns-in-NotYet : goal.returns-in-NotYet
 returns-in-NotYet g c = goes_none _ _ _ _ _
 
 pub returns-in-Fault : goal.returns-in-Fault
-returns-in-Fault g c = handled_other _ _ _ _ _ _ _ _ _ _ tt c.handle.ensures
+returns-in-Fault g c = handled_other _ _ _ _ _ _ c.args.machine.now.own _ _ _ tt c.handle.ensures
 
 pub hear_message-requires-clause-message : goal.hear_message-requires-clause-message
 hear_message-requires-clause-message g c = is_message _ _ _ c.in-Frame.ensures.sized

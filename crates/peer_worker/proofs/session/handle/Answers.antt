@@ -3,7 +3,7 @@ use Rattle.peer_worker.proofs.StepLemmas.{handled_none, handled_some, is_found}
 use Rattle.peer_worker.proofs.session.handle.Goals as goal
 
 pub begin-requires-clause-up : goal.begin-requires-clause-up
-begin-requires-clause-up g c = is_found _ _ _ _ _ c.state.ensures c.come_up.ensures c.in-Some.is
+begin-requires-clause-up g c = is_found c.step-todo.new.self _ _ _ _ c.state.ensures c.come_up.ensures c.in-Some.is
 
 pub returns-in-Some : goal.returns-in-Some
 returns-in-Some g c =
