@@ -24,7 +24,8 @@ walk_more place [] more = refl
 walk_more place (deed ∷ deeds) more = walk_more (step place deed) deeds more
 
 -- what one deed says
-pub moves_one : (own : Settings) (s t : Wire) (deed : Deed) → Gathered s (said_by own deed) t → Moves own s (deed ∷ []) t
+pub moves_one : (own : Settings) (s t : Wire) (deed : Deed) → Gathered s (said_by own deed) t
+    → Moves own s (deed ∷ []) t
 moves_one own s t deed said =
     subst (λ (bytes : List ℕ). Gathered s bytes t) (sym (append-nil (said_by own deed))) said
 

@@ -44,7 +44,8 @@ opened_fine own ev.KeepaliveDue other = refl
 opened_fine own ev.Lost other = refl
 opened_fine own (ev.Stop code sub) other = refl
 
-confirmed_fine : (own : Settings) (agreed : Agreed) (event : Event) → IsOther event → Fine own (st.OpenConfirm agreed) event Confirmed
+confirmed_fine : (own : Settings) (agreed : Agreed) (event : Event) → IsOther event
+    → Fine own (st.OpenConfirm agreed) event Confirmed
 confirmed_fine own agreed ev.Connected other = absurd other
 confirmed_fine own agreed (ev.Open (Ok theirs)) other = refl
 confirmed_fine own agreed (ev.Open (Err refusal)) other = refl
@@ -59,7 +60,8 @@ confirmed_fine own agreed ev.KeepaliveDue other = refl
 confirmed_fine own agreed ev.Lost other = refl
 confirmed_fine own agreed (ev.Stop code sub) other = refl
 
-live_fine : (own : Settings) (agreed : Agreed) (event : Event) → IsOther event → Fine own (st.Established agreed) event Live
+live_fine : (own : Settings) (agreed : Agreed) (event : Event) → IsOther event
+    → Fine own (st.Established agreed) event Live
 live_fine own agreed ev.Connected other = absurd other
 live_fine own agreed (ev.Open (Ok theirs)) other = refl
 live_fine own agreed (ev.Open (Err refusal)) other = refl

@@ -136,9 +136,9 @@ module _ {A : Type 0} (n : ℕ) where
     pub makes : Makes pass (all_entered n own deeds) later
     pub good : IsVisit own deeds tie
 
-  pub visited : (own : Settings) (pass later : Known A Entry) (s t : Wire) (given quiets : Option (List ℕ)) (ended : Bool)
-      → Goes n own pass s (IsPlace start) (Fits st.Idle) later t → GaveNothing s.taken → AreSettings s.dialled own
-      → s.broken ≡ false → s.out ≡ [] → t.out ≡ [] → Visited own pass (tie_of t given quiets ended) later
+  pub visited : (own : Settings) (pass later : Known A Entry) (s t : Wire) (given quiets : Option (List ℕ))
+      (ended : Bool) → Goes n own pass s (IsPlace start) (Fits st.Idle) later t → GaveNothing s.taken
+      → AreSettings s.dialled own → s.broken ≡ false → s.out ≡ [] → t.out ≡ [] → Visited own pass (tie_of t given quiets ended) later
   visited own pass later s t given quiets ended goes new dialled whole empty none =
       record {
         deeds = goes.deeds;

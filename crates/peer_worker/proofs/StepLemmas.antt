@@ -126,11 +126,12 @@ module _ {A : Type 0} (n : ℕ) (own : Settings) where
   pub does_said : (pass : Known A Entry) (s t : Wire) (action : Action) (note : Note)
       → ((place : Place) → step place (Say note) ≡ act_place place action) → Moves own s (Say note ∷ []) t
       → Does n own pass s (Carries (action ∷ [])) pass t
-  does_said pass s t action note same moves = does_deed pass pass s t action (Say note) same (acts_said n own pass s t note moves)
+  does_said pass s t action note same moves =
+      does_deed pass pass s t action (Say note) same (acts_said n own pass s t note moves)
 
   -- nothing is done
-  pub does_idly : (pass : Known A Entry) (s : Wire) (action : Action) → ((place : Place) → place ≡ act_place place action)
-      → Does n own pass s (Carries (action ∷ [])) pass s
+  pub does_idly : (pass : Known A Entry) (s : Wire) (action : Action)
+      → ((place : Place) → place ≡ act_place place action) → Does n own pass s (Carries (action ∷ [])) pass s
   does_idly pass s action same = record { deeds = []; acts = acts_none n own pass s; law = same }
 
   -- a session comes up, for which nothing is done yet
@@ -225,7 +226,8 @@ module _ {A : Type 0} (n : ℕ) (own : Settings) where
         law = λ place at.
             does.law place
             ∙ (ap (λ (now : Place). places now todo) at
-            ∙ (ap (λ (now : List Action). places (Faulted code sub) now) (is ∙ stop_table other state code sub established)
+            ∙ (ap (λ (now : List Action). places (Faulted code sub) now)
+            (is ∙ stop_table other state code sub established)
             ∙ finish_place code sub));
       }
 
@@ -276,9 +278,9 @@ module _ {A : Type 0} (n : ℕ) (own : Settings) where
 
   -- the same, by what a cut was answered
   pub ended_cut : (pass between later : Known A Entry) (s t u : Wire) (from : Place → Type 0) (cause : Cause)
-      (answer : Cut) (given : Option Cause) (state : State) → Goes n own pass s from (IsPlace (after_cut answer)) between t
-      → after_cause given ≡ after_cut answer → given ≡ Some cause
-      → Goes n own between t (IsPlace (Faulted cause.code cause.sub)) (IsPlace Over) later u
+      (answer : Cut) (given : Option Cause) (state : State)
+      → Goes n own pass s from (IsPlace (after_cut answer)) between t → after_cause given ≡ after_cut answer
+      → given ≡ Some cause → Goes n own between t (IsPlace (Faulted cause.code cause.sub)) (IsPlace Over) later u
       → state ≡ st.Idle → Goes n own pass s from (Fits state) later u
   ended_cut pass between later s t u from cause answer given state goes same is other idle =
       ended_for pass between later s t u from cause given state
@@ -308,8 +310,8 @@ module _ {A : Type 0} (n : ℕ) (own : Settings) where
       none is
 
   -- an event that may come wherever the session may be
-  pub handled_other : (pass later : Known A Entry) (s t : Wire) (other : Settings) (state state' : State) (event : Event)
-      → IsOther event → Goes n own pass s (Fine other state event) (Fits state') later t
+  pub handled_other : (pass later : Known A Entry) (s t : Wire) (other : Settings) (state state' : State)
+      (event : Event) → IsOther event → Goes n own pass s (Fine other state event) (Fits state') later t
       → Goes n own pass s (Fits state) (Fits state') later t
   handled_other pass later s t other state state' event is goes =
       goes_in pass later s t (Fits state) (Fine other state event) (Fits state') (Fits state')
@@ -320,7 +322,8 @@ module _ {A : Type 0} (n : ℕ) (own : Settings) where
       → Goes n own pass s (IsPlace Start) (Fits state') later t
   handled_connected pass later s t other state state' idle goes =
       goes_in pass later s t (IsPlace Start) (Fine other state ev.Connected) (Fits state') (Fits state')
-      (λ place at. subst (λ (now : State). Fine other now ev.Connected place) (sym idle) (connected_fine other place at))
+      (λ place at.
+      subst (λ (now : State). Fine other now ev.Connected place) (sym idle) (connected_fine other place at))
       (λ place fits. fits) goes
 
   -- the link moved, and nothing was said
@@ -328,18 +331,27 @@ module _ {A : Type 0} (n : ℕ) (own : Settings) where
       → Goes n own pass s from to later t → Gathered t [] u → Goes n own pass s from to later u
   goes_still pass later s t u from to goes said =
       goes_more pass later later s t u from to to goes
-      (record { deeds = []; acts = record { makes = (acts_none n own later t).makes; moves = said }; law = λ place is. is })
+      (record {
+        deeds = [];
+        acts = record { makes = (acts_none n own later t).makes; moves = said };
+        law = λ place is. is;
+      })
 
   pub still_goes : (pass later : Known A Entry) (s t u : Wire) (from to : Place → Type 0) → Gathered s [] t
       → Goes n own pass t from to later u → Goes n own pass s from to later u
   still_goes pass later s t u from to said goes =
       goes_more pass pass later s t u from from to
-      (record { deeds = []; acts = record { makes = (acts_none n own pass s).makes; moves = said }; law = λ place is. is })
+      (record {
+        deeds = [];
+        acts = record { makes = (acts_none n own pass s).makes; moves = said };
+        law = λ place is. is;
+      })
       goes
 
   -- no session stands any more
-  pub goes_over : (pass later : Known A Entry) (s t : Wire) (from : Place → Type 0) (state : State) → true ≡ is_idle state
-      → Goes n own pass s from (Fits state) later t → Goes n own pass s from (Fits st.Idle) later t
+  pub goes_over : (pass later : Known A Entry) (s t : Wire) (from : Place → Type 0) (state : State)
+      → true ≡ is_idle state → Goes n own pass s from (Fits state) later t
+      → Goes n own pass s from (Fits st.Idle) later t
   goes_over pass later s t from state on goes =
       goes_in pass later s t from from (Fits state) (Fits st.Idle) (λ place at. at)
       (λ place fits. idle_fits state place on fits) goes
@@ -377,7 +389,7 @@ module _ {A : Type 0} (n : ℕ) (own : Settings) where
   live_goes pass later s t state found agreed to same is goes =
       goes_in pass later s t (Fits state) CanCut to to
       (λ place fits.
-          subst CanCut (sym (subst (λ (now : State). Fits now place) (sym same ∙ is) fits)) tt)
+      subst CanCut (sym (subst (λ (now : State). Fits now place) (sym same ∙ is) fits)) tt)
       (λ place at. at) goes
 
 -- the session that came up stands

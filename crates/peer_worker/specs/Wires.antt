@@ -27,8 +27,8 @@ module _ {L : Type 0} where
     broken = voice.broken;
   }
 
--- Of these bytes behind what was gathered so many were sent: all but what is gathered now; or, where a send failed, some
--- from the front; or none where one had failed before.
+-- Of these bytes behind what was gathered so many were sent: all but what is gathered now; or, where a send failed,
+-- some from the front; or none where one had failed before.
 abbrev pub Left : Bool → Bool → List ℕ → List ℕ → List ℕ → List ℕ → ℕ → Type 0
 Left false false out bytes sent out' faults = sent ++ out' ≡ out ++ bytes
 Left false true out bytes sent out' faults = IsPrefix sent (out ++ bytes) × (0 < faults)

@@ -61,14 +61,7 @@ fn hear_message<R: Wait, L: Link, E: Ear>(
 }
 
 // Tells the ear of the body of an UPDATE, where the session stands behind it.
-fn tell_ear<R: Wait, E: Ear>(
-    rt: &R,
-    n: usize,
-    ear: &mut E,
-    state: State,
-    kind: u8,
-    body: &[u8],
-)
+fn tell_ear<R: Wait, E: Ear>(rt: &R, n: usize, ear: &mut E, state: State, kind: u8, body: &[u8])
     requires { length body.now ≤ 65516 }
 {
     if kind != UPDATE {
@@ -107,7 +100,9 @@ fn hear_front<R: Wait, L: Link, E: Ear>(
             true
         }
         Next::Frame { kind, body } => {
-            hear_message(rt, gate, pass, n, desk, voice, ear, machine, own, kind, body);
+            hear_message(
+                rt, gate, pass, n, desk, voice, ear, machine, own, kind, body,
+            );
             pass_message(cutter, widens(was, machine.state()));
             true
         }

@@ -6,6 +6,7 @@
 //! no connection that a neighbour opens, keeps no route that it hears, and doesn't say when it does what.
 #![tactic(auto)]
 
+mod acting;
 mod cause;
 mod desk;
 mod hearing;
@@ -14,11 +15,10 @@ mod session;
 mod slip;
 mod speaking;
 mod talker;
+#[cfg(test)]
+mod tests;
 mod timers;
 mod turns;
 mod voice;
-
-#[cfg(test)]
-mod tests;
 
 pub use talker::{Talker, TalkerParts};

@@ -10,7 +10,7 @@ use book_core::{Book, PeerCall};
 use book_gate::{Gate, Pass};
 use book_history::Peer;
 use frame_cutter::FrameCutter;
-use outside::{Clock, Dialled, Dialer, Ear, Pause};
+use outside::{Clock, Dialer, Dialled, Ear, Pause};
 use route_values::Settings;
 use std::sync::Wait;
 
@@ -42,8 +42,9 @@ pub fn talk<R: Wait, D: Dialer, E: Ear, C: Clock, P: Pause>(
     for _ in rt.forever() {
         match gate.enter(rt, pass, PeerCall { n }) {
             Peer::Is(own) => {
-                let stopped =
-                    visit(rt, gate, pass, n, desk, cutter, dialer, ear, clock, pause, own);
+                let stopped = visit(
+                    rt, gate, pass, n, desk, cutter, dialer, ear, clock, pause, own,
+                );
                 rest_unless(pause, stopped);
             }
             Peer::Absent => pause.wait(ABSENT),
@@ -84,7 +85,9 @@ pub fn visit<R: Wait, D: Dialer, E: Ear, C: Clock, P: Pause>(
         Dialled::Open(link) => {
             let mut voice = Voice::new(link);
             desk.empty();
-            converse(rt, gate, pass, n, desk, &mut voice, ear, own, cutter, clock, pause);
+            converse(
+                rt, gate, pass, n, desk, &mut voice, ear, own, cutter, clock, pause,
+            );
             let stopped = voice.stopped;
             dialer.give_back(voice.apart());
             stopped

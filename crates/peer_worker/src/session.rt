@@ -1,24 +1,24 @@
-//! A session: what its table asks for, and what the book is asked.
-ghost use Rattle.std.specs.Prelude.{◌≡◌, ◌<◌, [], ◌∷◌};
+//! A session: its events, and the messages that are cut for it.
+ghost use Rattle.std.specs.Prelude.{◌≡◌, ◌<◌};
 ghost use Rattle.config_model.specs.Limits.{max_peers};
-ghost use Rattle.peer_worker.specs.Deeds.{fallen};
-ghost use Rattle.peer_worker.specs.Goings.{Acts, CanCut, Carries, CutsOnce, Does, Fine, Fits, Goes};
-ghost use Rattle.peer_worker.specs.Goings.{IsEstablished, IsPlace, comes_up, idle};
+ghost use Rattle.peer_worker.specs.Goings.{CanCut, CutsOnce, Fine, Fits, Goes, IsEstablished};
+ghost use Rattle.peer_worker.specs.Goings.{IsPlace, comes_up, idle};
 ghost use Rattle.peer_worker.specs.Places.{after_cause, after_cut, confirmed, faulted, over};
 ghost use Rattle.peer_worker.specs.Wires.{wire};
 
+use crate::acting::act_all;
 use crate::cause::{Cause, cause_of, is_message};
 use crate::desk::Desk;
-use crate::speaking::{flush, gather, say_keepalive, say_open, say_refusal};
+use crate::speaking::gather;
 use crate::voice::Voice;
-use book_core::{Book, DownCall, RefreshCall, UpCall};
+use book_core::{Book, UpCall};
 use book_gate::{Gate, Pass};
 use book_history::{Cut, Up};
 use outside::{Ear, Link};
 use route_values::{Caps, Family, Settings};
 use session_codec::Agreed;
 use session_codec::codes::{ADMINISTRATIVE_SHUTDOWN, CEASE, OTHER_CONFIGURATION_CHANGE};
-use session_machine::{Action, Event, Machine, State};
+use session_machine::{Event, Machine, State};
 use std::sync::Wait;
 
 // How many messages are cut at most before they are sent and the link is looked at.
@@ -27,83 +27,6 @@ const MOST: usize = 1_024;
 // Where less room than this is left, what is gathered is sent first: the most that a message of a session has without
 // extended messages (RFC 4271, section 4.1).
 const LEAST_ROOM: usize = 4_096;
-
-// Does what the table asks for. That a session comes up is left to the caller, as is the body that is heard.
-fn act<R: Wait, L: Link, E: Ear>(
-    rt: &R,
-    gate: &Gate<Book>,
-    pass: &mut Pass<Book>,
-    n: usize,
-    desk: &mut Desk,
-    voice: &mut Voice<L>,
-    ear: &mut E,
-    own: Settings,
-    action: &Action,
-)
-    requires gate { pass.old.gate ≡ gate.now }
-    requires slot { n < max_peers }
-    ensures { Does n own pass.old (wire L.Link voice.old desk.old) (Carries (action.now ∷ []))
-        pass.new (wire L.Link voice.new desk.new) }
-{
-    match action {
-        Action::SendOpen => say_open(voice, desk, own),
-        Action::SendKeepalive => say_keepalive(voice, desk, own),
-        Action::Notify(refusal) => say_refusal(voice, desk, own, refusal),
-        Action::Up(_) => {}
-        Action::Down => go_down(rt, gate, pass, n, desk, voice, ear, own),
-        Action::Refresh(family) => {
-            gate.enter(rt, pass, RefreshCall { n, family: *family });
-        }
-        Action::Heard => {}
-        Action::Close => {}
-    }
-}
-
-// Enters that the session is no more, once all that was gathered is sent.
-fn go_down<R: Wait, L: Link, E: Ear>(
-    rt: &R,
-    gate: &Gate<Book>,
-    pass: &mut Pass<Book>,
-    n: usize,
-    desk: &mut Desk,
-    voice: &mut Voice<L>,
-    ear: &mut E,
-    own: Settings,
-)
-    requires gate { pass.old.gate ≡ gate.now }
-    requires slot { n < max_peers }
-    ensures { Acts n own pass.old (wire L.Link voice.old desk.old) (fallen ∷ [])
-        pass.new (wire L.Link voice.new desk.new) }
-{
-    flush(voice, desk);
-    gate.enter(rt, pass, DownCall { n });
-    if voice.up {
-        voice.up = false;
-        ear.ended(rt, n);
-    }
-}
-
-// Does all that the table asks for, in order.
-fn act_all<R: Wait, L: Link, E: Ear>(
-    rt: &R,
-    gate: &Gate<Book>,
-    pass: &mut Pass<Book>,
-    n: usize,
-    desk: &mut Desk,
-    voice: &mut Voice<L>,
-    ear: &mut E,
-    own: Settings,
-    todo: &[Action],
-)
-    requires gate { pass.old.gate ≡ gate.now }
-    requires slot { n < max_peers }
-    ensures { Does n own pass.old (wire L.Link voice.old desk.old) (Carries todo.now)
-        pass.new (wire L.Link voice.new desk.new) }
-{
-    for action in todo {
-        act(rt, gate, pass, n, desk, voice, ear, own, action);
-    }
-}
 
 // Has one message cut, and gathers it.
 fn cut_once<R: Wait, L: Link>(

@@ -1,5 +1,6 @@
 //! What is said on a link.
-ghost use Rattle.std.specs.Prelude.{ℕ, ◌≡◌, ◌+◌, ◌≤◌, ◌<◌, true, false, [], ◌∷◌, ◌++◌, List, length};
+ghost use Rattle.std.specs.Prelude.{ℕ, ◌≡◌, ◌+◌, ◌≤◌, ◌<◌, true, false, [], ◌∷◌, ◌++◌, List};
+ghost use Rattle.std.specs.Prelude.{length};
 ghost use Rattle.outside.specs.Told.{Grows};
 ghost use Rattle.peer_worker.specs.Deeds.{open_said, keepalive_said, refusal_said};
 ghost use Rattle.peer_worker.specs.Wires.{Gathered, Moves, wire};
@@ -79,12 +80,7 @@ pub fn say_keepalive<L: Link>(voice: &mut Voice<L>, desk: &mut Desk, own: Settin
 }
 
 /// Says a NOTIFICATION.
-pub fn say_refusal<L: Link>(
-    voice: &mut Voice<L>,
-    desk: &mut Desk,
-    own: Settings,
-    refusal: &Refusal,
-)
+pub fn say_refusal<L: Link>(voice: &mut Voice<L>, desk: &mut Desk, own: Settings, refusal: &Refusal)
     ensures { Moves own (wire L.Link voice.old desk.old) (refusal_said refusal.now ∷ [])
         (wire L.Link voice.new desk.new) }
 {

@@ -38,9 +38,7 @@ pub struct TalkerParts<D, E> {
     pub pass: Pass<Book>,
 }
 
-impl<'g, D: Dialer + Drop, E: Ear + Drop, C: Clock + Drop, P: Pause + Drop>
-    Talker<'g, D, E, C, P>
-{
+impl<'g, D: Dialer + Drop, E: Ear + Drop, C: Clock + Drop, P: Pause + Drop> Talker<'g, D, E, C, P> {
     /// A talker of a slot. Its buffers are made here; where there is no memory for them, its parts come back.
     pub fn new(
         alloc: Global,
@@ -104,9 +102,9 @@ impl<'g, D: Dialer + Drop, E: Ear + Drop, C: Clock + Drop, P: Pause + Drop>
 impl<'g, D: Dialer, E: Ear, C: Clock, P: Pause> Talker<'g, D, E, C, P> {
     /// Talks to the neighbour of its slot, link after link, until the daemon is to end.
     ///
-    /// Each link is dialled with the settings that the slot was asked for right before, and given back. Where it doesn't
-    /// fail, the bytes that it took are the messages that were cut for its session, in order, and those of the talker's
-    /// own. Each session that came up is cut for at once, and goes down before the slot is asked for again.
+    /// Each link is dialled with the settings that the slot was asked for right before, and given back. Where it
+    /// doesn't fail, the bytes that it took are the messages that were cut for its session, in order, and those of the
+    /// talker's own. Each session that came up is cut for at once, and goes down before the slot is asked for again.
     pub fn run<R: Wait>(&mut self, rt: &R)
         ensures talks { Talks self.old.n self.old.pass
             (told (D.links self.old.dialer) (D.asked self.old.dialer) (D.failed self.old.dialer))

@@ -51,11 +51,7 @@ fn opened(rt: &HostRuntime) -> Result<Opened<Book>, Fail>
 }
 
 // The settings of the neighbour in the first slot.
-fn own_settings<R: Wait>(
-    rt: &R,
-    gate: &Gate<Book>,
-    pass: &mut Pass<Book>,
-) -> Result<Settings, Fail>
+fn own_settings<R: Wait>(rt: &R, gate: &Gate<Book>, pass: &mut Pass<Book>) -> Result<Settings, Fail>
     requires { pass.old.gate ≡ gate.now }
     ensures { pass.new.gate ≡ gate.now }
 {
@@ -135,35 +131,68 @@ fn taken_types(alloc: Global, dialer: &MemoryDialer<'_>) -> Result<String, Fail>
 }
 
 // The types of what a talker says to a neighbour that says this and leaves.
-fn answers_to(rt: &HostRuntime, letters: &str) -> Result<String, Fail> {
-    let Opened { gate, mut pass } = opened(rt)?;
-    let own = own_settings(rt, &gate, &mut pass)?;
-    let said = said_by(rt.alloc(), &own, letters)?;
-    let mut dialer = dialer_of(rt.alloc(), &said)?;
-    let mut desk = Desk::new(rt.alloc())?;
-    let mut cutter = FrameCutter::new(rt.alloc())?;
+fn answers_to<R: Wait>(
+    rt: &R,
+    alloc: Global,
+    gate: &Gate<Book>,
+    pass: &mut Pass<Book>,
+    letters: &str,
+) -> Result<String, Fail>
+    requires { pass.old.gate ≡ gate.now }
+{
+    let own = own_settings(rt, gate, pass)?;
+    let said = said_by(alloc, &own, letters)?;
+    let mut dialer = dialer_of(alloc, &said)?;
+    talk_once(rt, alloc, gate, pass, &mut dialer, own)?;
+    taken_types(alloc, &dialer)
+}
+
+// Connects once, and talks.
+fn talk_once<R: Wait>(
+    rt: &R,
+    alloc: Global,
+    gate: &Gate<Book>,
+    pass: &mut Pass<Book>,
+    dialer: &mut MemoryDialer<'_>,
+    own: Settings,
+) -> Result<(), Fail>
+    requires { pass.old.gate ≡ gate.now }
+{
+    let mut desk = Desk::new(alloc)?;
+    let mut cutter = FrameCutter::new(alloc)?;
+    let mut ear = NoEar;
+    let pause = MemoryPause::new(&[]);
+    let clock = StillClock;
     visit(
         rt,
-        &gate,
-        &mut pass,
+        gate,
+        pass,
         0,
         &mut desk,
         &mut cutter,
-        &mut dialer,
-        &mut NoEar,
-        StillClock,
-        MemoryPause::new(&[]),
+        dialer,
+        &mut ear,
+        clock,
+        pause,
         own,
     );
-    taken_types(rt.alloc(), &dialer)
+    Ok(())
 }
 
 // What a neighbour says, and what it is answered: OPEN 1, UPDATE 2, NOTIFICATION 3, KEEPALIVE 4.
 const TALKS: [(&str, &str, &str); 6] = [
     ("", "1", "a neighbour that says nothing is sent an OPEN"),
     ("o", "14", "an OPEN is answered by a KEEPALIVE"),
-    ("ok", "1422", "a session is sent the routes and the end of them"),
-    ("okr", "1422222", "a family that is asked for again is sent again"),
+    (
+        "ok",
+        "1422",
+        "a session is sent the routes and the end of them",
+    ),
+    (
+        "okr",
+        "1422222",
+        "a family that is asked for again is sent again",
+    ),
     ("k", "13", "a KEEPALIVE before the OPEN is refused"),
     ("oko", "14223", "a second OPEN ends the session"),
 ];
@@ -171,7 +200,8 @@ const TALKS: [(&str, &str, &str); 6] = [
 #[test]
 fn a_neighbour_is_sent_what_it_is_to_be_sent(rt: HostRuntime) -> Result<(), Fail> {
     for (letters, wanted, why) in TALKS {
-        let said = answers_to(&rt, letters)?;
+        let Opened { gate, mut pass } = opened(&rt)?;
+        let said = answers_to(&rt, rt.alloc(), &gate, &mut pass, letters)?;
         assert_eq!(rt; said.as_str(), wanted, "{why}");
     }
     Ok(())
@@ -183,13 +213,16 @@ fn a_talker_ends_with_the_daemon(rt: HostRuntime) -> Result<(), Fail> {
     gate.enter(&rt, &mut pass, StopCall);
     let dialer = dialer_of(rt.alloc(), b"")?;
     let pause = MemoryPause::new(&[]);
-    let Ok(mut talker) =
-        Talker::new(rt.alloc(), &gate, 0, dialer, NoEar, StillClock, pause, pass)
+    let Ok(mut talker) = Talker::new(rt.alloc(), &gate, 0, dialer, NoEar, StillClock, pause, pass)
     else {
         return Err("no memory".into());
     };
     talker.run(&rt);
-    let TalkerParts { dialer, ear: _, pass: _ } = talker.apart();
+    let TalkerParts {
+        dialer,
+        ear: _,
+        pass: _,
+    } = talker.apart();
     assert_eq!(rt; dialer.failed(), Some(0));
     Ok(())
 }
@@ -199,13 +232,16 @@ fn a_talker_that_is_called_off_ends_the_daemon(rt: HostRuntime) -> Result<(), Fa
     let Opened { gate, pass } = opened(&rt)?;
     let dialer = dialer_of(rt.alloc(), b"")?;
     let pause = MemoryPause::new(&[]);
-    let Ok(mut talker) =
-        Talker::new(rt.alloc(), &gate, 0, dialer, NoEar, StillClock, pause, pass)
+    let Ok(mut talker) = Talker::new(rt.alloc(), &gate, 0, dialer, NoEar, StillClock, pause, pass)
     else {
         return Err("no memory".into());
     };
     talker.call_off(&rt);
-    let TalkerParts { dialer: _, ear: _, mut pass } = talker.apart();
+    let TalkerParts {
+        dialer: _,
+        ear: _,
+        mut pass,
+    } = talker.apart();
     let told = gate.enter(&rt, &mut pass, ControlCall);
     assert!(rt; matches!(told, Control::Stop));
     Ok(())

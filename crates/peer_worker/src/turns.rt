@@ -45,7 +45,9 @@ fn take_in<R: Wait, L: Link, E: Ear, C: Clock>(
     ensures { Goes n own pass.old (wire L.Link voice.old desk.old) (Fits machine.old.state)
         (Fits machine.new.state) pass.new (wire L.Link voice.new desk.new) }
 {
-    if hear(rt, gate, pass, n, desk, voice, ear, machine, own, cutter, piece) {
+    if hear(
+        rt, gate, pass, n, desk, voice, ear, machine, own, cutter, piece,
+    ) {
         timers.hear(clock.now());
     }
 }
@@ -177,10 +179,14 @@ fn turn<R: Wait, L: Link, E: Ear, C: Clock>(
         (Fits machine.new.state) pass.new (wire L.Link voice.new desk.new) }
 {
     let was = machine.state();
-    listen(rt, gate, pass, n, desk, voice, ear, machine, own, cutter, clock, timers);
+    listen(
+        rt, gate, pass, n, desk, voice, ear, machine, own, cutter, clock, timers,
+    );
     let now = clock.now();
     timers.keep_if(is_taken(was, machine.state()), now);
-    tick(rt, gate, pass, n, desk, voice, ear, machine, own, now, timers);
+    tick(
+        rt, gate, pass, n, desk, voice, ear, machine, own, now, timers,
+    );
 }
 
 // Lets the next look at the link wait for nothing, where there is more to do.
@@ -214,7 +220,18 @@ pub fn converse<R: Wait, L: Link, E: Ear, C: Clock, P: Pause>(
     let mut machine = Machine::new(own);
     let mut timers = Timers::new(clock.now());
     let connected = Event::Connected;
-    handle(rt, gate, pass, n, desk, voice, ear, &mut machine, own, connected);
+    handle(
+        rt,
+        gate,
+        pass,
+        n,
+        desk,
+        voice,
+        ear,
+        &mut machine,
+        own,
+        connected,
+    );
     for _ in rt.forever() {
         let more = cut_if_up(rt, gate, pass, n, desk, voice, ear, &mut machine, own);
         flush(voice, desk);

@@ -8,8 +8,8 @@ returns-then-voice-clause-still g c = λ desk. gathered_none _
 pub returns-clause-still : goal.returns-clause-still
 returns-clause-still g c =
     λ desk.
-        gathered_heard g.L.Link c.args.voice.now c.recv.new.self desk c.recv.ensures.taken c.recv.ensures.dialled
-        (recv_later _ _ c.recv.result c.recv.ensures.cause)
+    gathered_heard g.L.Link c.args.voice.now c.recv.new.self desk c.recv.ensures.taken c.recv.ensures.dialled
+    (recv_later _ _ c.recv.result c.recv.ensures.cause)
 
 pub returns-clause-within : goal.returns-clause-within
 returns-clause-within g c = recv_within _ _ _ c.recv.result c.recv.ensures.bytes

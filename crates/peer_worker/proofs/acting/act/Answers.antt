@@ -3,7 +3,7 @@ use Rattle.session_machine.specs.declared.action.Action.TheVariants as act
 use Rattle.peer_worker.specs.Deeds.{Fall, KeepaliveSaid, OpenSaid, RefusalSaid, Renew}
 use Rattle.peer_worker.proofs.ActLemmas.{acts_renew}
 use Rattle.peer_worker.proofs.StepLemmas.{does_deed, does_idly, does_said, does_up, for_action}
-use Rattle.peer_worker.proofs.session.act.Goals as goal
+use Rattle.peer_worker.proofs.acting.act.Goals as goal
 
 pub returns-in-SendOpen : goal.returns-in-SendOpen
 returns-in-SendOpen g c =

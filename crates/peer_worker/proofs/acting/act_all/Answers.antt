@@ -1,7 +1,7 @@
 use Rattle.std.proofs.Common.{◌∙◌, sym, take, slice_index_or, ◌∷◌, []}
 use Rattle.std.proofs.lemmas.List.{take_more}
 use Rattle.peer_worker.proofs.StepLemmas.{does_none, does_more, for_action, gate_kept}
-use Rattle.peer_worker.proofs.session.act_all.Goals as goal
+use Rattle.peer_worker.proofs.acting.act_all.Goals as goal
 
 pub loop-action-init : goal.loop-action-init
 loop-action-init g c = does_none _ _ _ _

@@ -1,7 +1,7 @@
 use Rattle.std.proofs.Common.{take}
 use Rattle.peer_worker.specs.Goings.{Carries, Does}
 use Rattle.peer_worker.specs.Wires.{wire}
-use Rattle.peer_worker.proofs.session.act_all.Given as goal
+use Rattle.peer_worker.proofs.acting.act_all.Given as goal
 
 -- the actions so far are done
 abbrev pub invariant-loop-action : goal.invariant-loop-action
