@@ -4,3 +4,4 @@ pub mod MessageLemmas
 pub mod RoundLemmas
 pub mod SaidLemmas
 pub mod StepLemmas
+pub mod StreamLemmas

@@ -26,6 +26,7 @@ use Rattle.peer_worker.specs.Places.{start, walk}
 use Rattle.peer_worker.specs.Rounds.{AddsAll, AddsCount, IsGood, IsSent, IsVisit, Round, Visit, Missed, Idle, Talks}
 use Rattle.peer_worker.specs.Rounds.{Tells, Tie, Told, Visits, asked_of, entries_of, failures, links_of, stopping}
 use Rattle.peer_worker.specs.Wires.{Left, Wire}
+use Rattle.peer_worker.proofs.StreamLemmas.{stream_of}
 
 adds_none : {B : Type 0} (told : Option (List B)) → AddsAll told told []
 adds_none None = tt
@@ -134,11 +135,12 @@ module _ {A : Type 0} (n : ℕ) where
   pub record Visited (own : Settings) (pass : Known A Entry) (tie : Tie) (later : Known A Entry) : Type 0 where
     pub deeds : List Deed
     pub makes : Makes pass (all_entered n own deeds) later
-    pub good : IsVisit own deeds tie
+    pub good : IsVisit n own deeds tie
 
   pub visited : (own : Settings) (pass later : Known A Entry) (s t : Wire) (given quiets : Option (List ℕ))
       (ended : Bool) → Goes n own pass s (IsPlace start) (Fits st.Idle) later t → GaveNothing s.taken
-      → AreSettings s.dialled own → s.broken ≡ false → s.out ≡ [] → t.out ≡ [] → Visited own pass (tie_of t given quiets ended) later
+      → AreSettings s.dialled own → s.broken ≡ false → s.out ≡ [] → t.out ≡ []
+      → Visited own pass (tie_of t given quiets ended) later
   visited own pass later s t given quiets ended goes new dialled whole empty none =
       record {
         deeds = goes.deeds;
@@ -150,15 +152,16 @@ module _ {A : Type 0} (n : ℕ) where
               all_sent s.broken t.broken s.taken t.taken (all_said own goes.deeds) goes.acts.moves.sent s.out t.out
               t.faults new goes.acts.moves.grows whole empty none goes.acts.moves.left;
           ends = goes.law start refl;
+          stream = stream_of n own goes.deeds (goes.law start refl);
         };
       }
 
   pub talks_none : (pass : Known A Entry) (s : Told) → Talks n pass s [] pass s
   talks_none pass s =
-      record { rounds = []; makes = makes_none pass; tells = tells_none s; good = All-nil IsGood }
+      record { rounds = []; makes = makes_none pass; tells = tells_none s; good = All-nil (IsGood n) }
 
   talks_round : (pass between later : Known A Entry) (s t u : Told) (round : Round) → Talks n pass s [] between t
-      → Makes between (entries_of n round) later → Tells t (round ∷ []) u → IsGood round → Talks n pass s [] later u
+      → Makes between (entries_of n round) later → Tells t (round ∷ []) u → IsGood n round → Talks n pass s [] later u
   talks_round pass between later s t u round talks makes tells good =
       record {
         rounds = talks.rounds ++ round ∷ [];
@@ -174,7 +177,8 @@ module _ {A : Type 0} (n : ℕ) where
             makes);
         tells = tells_more s t u talks.rounds (round ∷ []) talks.tells tells;
         good =
-            All-append IsGood talks.rounds (round ∷ []) talks.good (All-cons IsGood round [] good (All-nil IsGood));
+            All-append (IsGood n) talks.rounds (round ∷ []) talks.good
+            (All-cons (IsGood n) round [] good (All-nil (IsGood n)));
       }
 
   pub talks_visit : (law : A → List Entry → Entry → Type 0) (pass between asked later : Known A Entry) (s t u : Told)

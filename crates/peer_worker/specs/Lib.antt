@@ -4,4 +4,5 @@ pub mod Goings
 pub mod Hearing
 pub mod Places
 pub mod Rounds
+pub mod Streams
 pub mod Wires

@@ -15,6 +15,7 @@ use Rattle.pass_entries.specs.Making.{Makes}
 use Rattle.peer_worker.specs.Deeds.{Deed, all_entered, all_said}
 use Rattle.peer_worker.specs.Goings.{is_end}
 use Rattle.peer_worker.specs.Places.{start, walk}
+use Rattle.peer_worker.specs.Streams.{IsStream, all_cut}
 
 -- a link that was given back, as far as it told itself
 pub record Tie : Type 0 where
@@ -62,17 +63,18 @@ abbrev pub IsSent : List ℕ → Option (List ℕ) → ℕ → Type 0
 IsSent bytes None faults = ⊤
 IsSent bytes (Some taken) faults = IsPrefix taken bytes × (faults ≡ 0 → taken ≡ bytes)
 
--- The link was dialled with the settings; what it took is what the deeds say, as far as it didn't fail; and the deeds
--- are in order, and end where no session is up.
-pub record IsVisit (own : Settings) (deeds : List Deed) (tie : Tie) : Type 0 where
+-- The link was dialled with the settings; what it took is what the deeds say, as far as it didn't fail; the deeds are
+-- in order, and end where no session is up; and so they say one stream, with the messages that were cut.
+pub record IsVisit (n : ℕ) (own : Settings) (deeds : List Deed) (tie : Tie) : Type 0 where
   pub dialled : AreSettings tie.dialled own
   pub sent : IsSent (all_said own deeds) tie.taken tie.faults
   pub ends : is_end (walk start deeds) ≡ true
+  pub stream : IsStream own (all_said own deeds) (all_cut (all_entered n own deeds))
 
-abbrev pub IsGood : Round → Type 0
-IsGood (Visit own deeds tie) = IsVisit own deeds tie
-IsGood (Missed own) = ⊤
-IsGood Idle = ⊤
+abbrev pub IsGood : ℕ → Round → Type 0
+IsGood n (Visit own deeds tie) = IsVisit n own deeds tie
+IsGood n (Missed own) = ⊤
+IsGood n Idle = ⊤
 
 -- a told list has these more, each of which is told
 abbrev pub AddsAll : {B : Type 0} → Option (List B) → Option (List B) → List (Option B) → Type 0
@@ -112,7 +114,7 @@ module _ {A : Type 0} where
     pub rounds : List Round
     pub makes : Makes pass (flat_map (entries_of n) rounds ++ last) later
     pub tells : Tells s rounds t
-    pub good : All IsGood rounds
+    pub good : All (IsGood n) rounds
 
   -- one round, behind its first entry
   pub record Visits (n : ℕ) (own : Settings) (pass : Known A Entry) (s : Told) (later : Known A Entry) (t : Told)
@@ -122,4 +124,4 @@ module _ {A : Type 0} where
     pub entries : entries_of n round ≡ PeerAsked n (peer.Is own) ∷ made
     pub makes : Makes pass made later
     pub tells : Tells s (round ∷ []) t
-    pub good : IsGood round
+    pub good : IsGood n round
