@@ -185,16 +185,16 @@ const TALKS: [(&str, &str, &str); 6] = [
     ("o", "14", "an OPEN is answered by a KEEPALIVE"),
     (
         "ok",
-        "1422",
+        "14222",
         "a session is sent the routes and the end of them",
     ),
     (
         "okr",
-        "1422222",
+        "142222",
         "a family that is asked for again is sent again",
     ),
     ("k", "13", "a KEEPALIVE before the OPEN is refused"),
-    ("oko", "14223", "a second OPEN ends the session"),
+    ("oko", "142223", "a second OPEN ends the session"),
 ];
 
 #[test]
