@@ -147,7 +147,7 @@ fn answers_to<R: Wait>(
     taken_types(alloc, &dialer)
 }
 
-// Connects once, and talks.
+// Connects once, and talks. Whether the session was ended because the daemon ends.
 fn talk_once<R: Wait>(
     rt: &R,
     alloc: Global,
@@ -155,7 +155,7 @@ fn talk_once<R: Wait>(
     pass: &mut Pass<Book>,
     dialer: &mut MemoryDialer<'_>,
     own: Settings,
-) -> Result<(), Fail>
+) -> Result<bool, Fail>
     requires { pass.old.gate ≡ gate.now }
 {
     let mut desk = Desk::new(alloc)?;
@@ -163,7 +163,7 @@ fn talk_once<R: Wait>(
     let mut ear = NoEar;
     let pause = MemoryPause::new(&[]);
     let clock = StillClock;
-    visit(
+    Ok(visit(
         rt,
         gate,
         pass,
@@ -175,8 +175,7 @@ fn talk_once<R: Wait>(
         clock,
         pause,
         own,
-    );
-    Ok(())
+    ))
 }
 
 // What a neighbour says, and what it is answered: OPEN 1, UPDATE 2, NOTIFICATION 3, KEEPALIVE 4.
@@ -204,6 +203,20 @@ fn a_neighbour_is_sent_what_it_is_to_be_sent(rt: HostRuntime) -> Result<(), Fail
         let said = answers_to(&rt, rt.alloc(), &gate, &mut pass, letters)?;
         assert_eq!(rt; said.as_str(), wanted, "{why}");
     }
+    Ok(())
+}
+
+#[test]
+fn a_session_that_comes_up_as_the_daemon_ends_is_ended(rt: HostRuntime) -> Result<(), Fail> {
+    let Opened { gate, mut pass } = opened(&rt)?;
+    let own = own_settings(&rt, &gate, &mut pass)?;
+    gate.enter(&rt, &mut pass, StopCall);
+    let said = said_by(rt.alloc(), &own, "ok")?;
+    let mut dialer = dialer_of(rt.alloc(), &said)?;
+    let stopped = talk_once(&rt, rt.alloc(), &gate, &mut pass, &mut dialer, own)?;
+    assert!(rt; stopped);
+    let types = taken_types(rt.alloc(), &dialer)?;
+    assert_eq!(rt; types.as_str(), "143");
     Ok(())
 }
 
