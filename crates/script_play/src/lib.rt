@@ -1,8 +1,8 @@
 //! The commands that run the daemon's engine over text: a script of events, a helper's lines, and a large input.
 //!
 //! `play` enters the events of a script into a book and writes what each is answered before it reads on; `encode` does
-//! so with a helper's lines, and then makes the messages that they leave; `load` enters a large input, and writes what it
-//! counts of the messages. The crate stands on book_core (the engine), text_history (which histories a command may
+//! so with a helper's lines, and then makes the messages that they leave; `load` enters a large input, and writes what
+//! it counts of the messages. The crate stands on book_core (the engine), text_history (which histories a command may
 //! have), answer_texts (what is printed), update_codec (messages as they are read), script_grammar, line_cutter and
 //! config_reader (lines and files), and outside (sources, sinks, files). It starts no thread and no child, and opens no
 //! session.
