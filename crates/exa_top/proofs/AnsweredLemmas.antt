@@ -6,18 +6,21 @@ use Rattle.route_values.specs.declared.settings.Side.{Side}
 use Rattle.outside.specs.Seen.{SourceSeen, SinkSeen}
 use Rattle.outside.specs.Told.{Grows}
 use Rattle.update_grammar.specs.Laws.{EndIsSpelled}
-use Rattle.exa_top.specs.declared.status.Status.{Status}
-use Rattle.exa_top.specs.declared.status.Status.TheVariants as status
+use Rattle.script_grammar.specs.Scripts.{script_lines}
+use Rattle.text_history.specs.Plays.{IsPlayPart}
+use Rattle.script_play.specs.declared.status.Status.{Status}
+use Rattle.script_play.specs.declared.status.Status.TheVariants as status
 use Rattle.exa_top.specs.declared.words.TextCommand.{TextCommand}
-use Rattle.exa_top.specs.declared.words.TextCommand.TheVariants.{Encode, Check, Parse, Decode, Help, Version}
+use Rattle.exa_top.specs.declared.words.TextCommand.TheVariants.{Encode, Check, Play, Parse, Decode, Help, Version}
 use Rattle.exa_top.specs.Encoding.{IsEncoding, marker, last_text}
 use Rattle.exa_top.specs.Parsing.{IsParsing}
-use Rattle.exa_top.specs.Top.{input_limit, IsOutput, ReadToEnd, ReadsWhole, ReadPart, ReadNothing}
+use Rattle.exa_top.specs.Played.{IsPlayed, IsShown}
+use Rattle.exa_top.specs.Top.{input_limit, IsOutput, IsPartOutput, ReadToEnd, ReadsWhole, ReadPart, ReadNothing}
 use Rattle.exa_top.specs.Top.{ReadsPart, ReadsInput, IsConfigured, Broke, GaveFrom, IsLeft, Answered, Wrote}
 use Rattle.exa_top.proofs.OutputLemmas.{some_encoding, some_parsing, parted}
 
 -- what isn't touched has grown by nothing
-grows_none : (told : Option (List ℕ)) → Grows told told []
+pub grows_none : (told : Option (List ℕ)) → Grows told told []
 grows_none None = tt
 grows_none (Some bytes) = sym (append-nil bytes)
 
@@ -48,6 +51,8 @@ pub whole_is_few : (content : Option (List ℕ → List ℕ)) (command : TextCom
 whole_is_few content (Encode side) source source' bytes whole = few_given input_limit source.given source'.given bytes
     whole.given whole.short
 whole_is_few content (Check path) source source' bytes whole = untouched_is_few source source' bytes whole.0
+whole_is_few content (Play path) source source' bytes whole = few_given input_limit source.given source'.given bytes
+    whole.0.given whole.0.short
 whole_is_few content Parse source source' bytes whole = few_given input_limit source.given source'.given bytes
     whole.given whole.short
 whole_is_few content (Decode caps) source source' bytes whole = few_given input_limit source.given source'.given bytes
@@ -55,11 +60,32 @@ whole_is_few content (Decode caps) source source' bytes whole = few_given input_
 whole_is_few content Help source source' bytes whole = untouched_is_few source source' bytes whole
 whole_is_few content Version source source' bytes whole = untouched_is_few source source' bytes whole
 
+-- a script that was played to its end was played so far
+pub played_is_part : (content : Option (List ℕ → List ℕ)) (path script output : List ℕ)
+    → IsPlayed content path script output → IsShown content path (IsPlayPart content script) output
+played_is_part content path script output played = record {
+  slots = played.slots;
+  slots_are = played.slots_are;
+  config = played.config;
+  configured = played.configured;
+  history = played.history;
+  events = record {
+    lines = script_lines script;
+    behind = [];
+    lines_are = sym (append-nil (script_lines script));
+    more = [];
+    played = played.events;
+  };
+  legal = played.legal;
+  output_is = played.output_is;
+}
+
 -- what ended well had its configuration
 pub whole_is_configured : (content : Option (List ℕ → List ℕ)) (command : TextCommand) (source source' : SourceSeen)
     (bytes : List ℕ) → ReadsWhole content command source source' bytes → IsConfigured content command
 whole_is_configured content (Encode side) source source' bytes whole = tt
 whole_is_configured content (Check path) source source' bytes whole = whole.1
+whole_is_configured content (Play path) source source' bytes whole = whole.1
 whole_is_configured content Parse source source' bytes whole = tt
 whole_is_configured content (Decode caps) source source' bytes whole = tt
 whole_is_configured content Help source source' bytes whole = tt
@@ -74,31 +100,45 @@ part_of_whole source source' bytes whole = record {
   short = omega (arith, whole.short);
 }
 
+-- the output of a command that came to its end is one of a command that didn't have to
+pub whole_is_part : (content : Option (List ℕ → List ℕ)) (command : TextCommand) (input early late : List ℕ)
+    → IsOutput content command input early late → IsPartOutput content command input early late
+whole_is_part content (Encode side) input early late outcome = outcome
+whole_is_part content (Check path) input early late outcome = outcome
+whole_is_part content (Play path) input early late outcome =
+    (inr (played_is_part content path.now input early outcome.0), outcome.1)
+whole_is_part content Parse input early late outcome = outcome
+whole_is_part content (Decode caps) input early late outcome = outcome
+whole_is_part content Help input early late outcome = outcome
+whole_is_part content Version input early late outcome = outcome
+
 -- a command that read what it had to and then wrote
 pub written : (content : Option (List ℕ → List ℕ)) (command : TextCommand) (source source' : SourceSeen)
     (sink sink' : SinkSeen) (input early late : List ℕ) (ends : Status)
     → ReadsWhole content command source source' input → ReadsPart command source source' input
-    → IsOutput command input early late → source'.faults ≡ source.faults → Wrote (early ++ late) sink sink' ends
+    → IsOutput content command input early late → source'.faults ≡ source.faults → Wrote (early ++ late) sink sink' ends
     → Answered content command source source' sink sink' ends
 written content command source source' sink sink' input early late status.Ok whole part outcome same wrote = record {
   spelled = λ is. absurd (cc);
+  crew = λ is. absurd (cc);
   ok = λ is. record { input = input; early = early; late = late; read = whole; outcome = outcome; written = wrote.0 };
   broke = λ other. absurd (other refl);
   unread = λ is. absurd (cc);
   refused = λ fault is. absurd (cc);
+  bad = λ line is. absurd (cc);
   read = λ is. absurd (cc);
   read_same = λ other. same;
   write = λ is. absurd (cc);
   write_same = λ other. wrote.1;
-  write_late = λ is. absurd (cc);
+  late = λ is. absurd is;
   reads = λ is. absurd (cc);
-  read_reads = λ is. absurd (cc);
   long = λ is. absurd (cc);
   over = λ from. absurd (whole_is_few content command source source' input whole from);
 }
 written content command source source' sink sink' input early late status.WriteFault whole part outcome same wrote =
     record {
       spelled = λ is. absurd (cc);
+      crew = λ is. absurd (cc);
       ok = λ is. absurd (cc);
       broke = λ other. record {
         input = input;
@@ -106,20 +146,20 @@ written content command source source' sink sink' input early late status.WriteF
         late = late;
         part = wrote.0.0;
         read = part;
-        outcome = outcome;
+        outcome = whole_is_part content command input early late outcome;
         front = (wrote.0.1, wrote.0.2);
         written = wrote.0.3;
         past = λ longer. whole;
       };
       unread = λ is. absurd (cc);
       refused = λ fault is. absurd (cc);
+      bad = λ line is. absurd (cc);
       read = λ is. absurd (cc);
       read_same = λ other. same;
       write = λ is. wrote.1;
       write_same = λ other. absurd (other refl);
-      write_late = λ is. whole_is_configured content command source source' input whole;
+      late = λ is. whole_is_configured content command source source' input whole;
       reads = λ is. absurd (cc);
-      read_reads = λ is. absurd (cc);
       long = λ is. absurd (cc);
       over = λ from. absurd (whole_is_few content command source source' input whole from);
     }
@@ -129,6 +169,10 @@ written content command source source' sink sink' input early late status.Config
     absurd wrote
 written content command source source' sink sink' input early late (status.ConfigRefused fault) whole part outcome same
     wrote = absurd wrote
+written content command source source' sink sink' input early late (status.ScriptRefused line) whole part outcome same
+    wrote = absurd wrote
+written content command source source' sink sink' input early late status.NoCrew whole part outcome same wrote =
+    absurd wrote
 written content command source source' sink sink' input early late status.ReadFault whole part outcome same wrote =
     absurd wrote
 written content command source source' sink sink' input early late status.NoMemory whole part outcome same wrote =
@@ -139,7 +183,7 @@ written content command source source' sink sink' input early late status.InputL
 -- a command that writes a text of its own
 pub text_written : (content : Option (List ℕ → List ℕ)) (command : TextCommand) (source : SourceSeen)
     (sink sink' : SinkSeen) (text : List ℕ) (ends : Status) → ReadsWhole content command source source []
-    → ReadsPart command source source [] → IsOutput command [] text [] → Wrote text sink sink' ends
+    → ReadsPart command source source [] → IsOutput content command [] text [] → Wrote text sink sink' ends
     → Answered content command source source sink sink' ends
 text_written content command source sink sink' text ends whole part outcome wrote =
     let Of : List ℕ → Type 0 = λ all. Wrote all sink sink' ends in
@@ -170,7 +214,7 @@ parsing_written content source source' sink sink' input text ends whole parsing 
 -- a command that wrote nothing
 pub nothing_written : (content : Option (List ℕ → List ℕ)) (command : TextCommand) (source source' : SourceSeen)
     (sink : SinkSeen) (input early late : List ℕ) → ReadsPart command source source' input
-    → IsOutput command input early late → Broke content command source source' sink sink
+    → IsPartOutput content command input early late → Broke content command source source' sink sink
 nothing_written content command source source' sink input early late part outcome = record {
   input = input;
   early = early;
@@ -186,61 +230,70 @@ nothing_written content command source source' sink input early late part outcom
 -- a command whose input was left before its end
 pub stopped : (content : Option (List ℕ → List ℕ)) (command : TextCommand) (source source' : SourceSeen)
     (sink : SinkSeen) (input early late : List ℕ) (ends : Status) → ReadsInput command
-    → ReadsPart command source source' input → IsOutput command input early late → IsLeft source source' ends
+    → IsConfigured content command → ReadsPart command source source' input
+    → IsPartOutput content command input early late → IsLeft source source' ends
     → Answered content command source source' sink sink ends
-stopped content command source source' sink input early late status.NoMemory reads part outcome same = record {
+stopped content command source source' sink input early late status.NoMemory reads good part outcome same = record {
   spelled = λ is. absurd (cc);
+  crew = λ is. absurd (cc);
   ok = λ is. absurd (cc);
   broke = λ other. nothing_written content command source source' sink input early late part outcome;
   unread = λ is. absurd (cc);
   refused = λ fault is. absurd (cc);
+  bad = λ line is. absurd (cc);
   read = λ is. absurd (cc);
   read_same = λ other. same;
   write = λ is. absurd (cc);
   write_same = λ other. refl;
-  write_late = λ is. absurd (cc);
+  late = λ is. absurd is;
   reads = λ is. reads;
-  read_reads = λ is. reads;
   long = λ is. absurd (cc);
   over = λ from. inr (inr refl);
 }
-stopped content command source source' sink input early late status.ReadFault reads part outcome counts = record {
+stopped content command source source' sink input early late status.ReadFault reads good part outcome counts = record {
   spelled = λ is. absurd (cc);
+  crew = λ is. absurd (cc);
   ok = λ is. absurd (cc);
   broke = λ other. nothing_written content command source source' sink input early late part outcome;
   unread = λ is. absurd (cc);
   refused = λ fault is. absurd (cc);
+  bad = λ line is. absurd (cc);
   read = λ is. counts;
   read_same = λ other. absurd (other refl);
   write = λ is. absurd (cc);
   write_same = λ other. refl;
-  write_late = λ is. absurd (cc);
+  late = λ is. good;
   reads = λ is. reads;
-  read_reads = λ is. reads;
   long = λ is. absurd (cc);
   over = λ from. inr (inl refl);
 }
-stopped content command source source' sink input early late status.InputLong reads part outcome left = record {
+stopped content command source source' sink input early late status.InputLong reads good part outcome left = record {
   spelled = λ is. absurd (cc);
+  crew = λ is. absurd (cc);
   ok = λ is. absurd (cc);
   broke = λ other. nothing_written content command source source' sink input early late part outcome;
   unread = λ is. absurd (cc);
   refused = λ fault is. absurd (cc);
+  bad = λ line is. absurd (cc);
   read = λ is. absurd (cc);
   read_same = λ other. left.0;
   write = λ is. absurd (cc);
   write_same = λ other. refl;
-  write_late = λ is. absurd (cc);
+  late = λ is. good;
   reads = λ is. reads;
-  read_reads = λ is. reads;
   long = λ is. left.1;
   over = λ from. inl refl;
 }
-stopped content command source source' sink input early late status.Ok reads part outcome left = absurd left
-stopped content command source source' sink input early late status.Usage reads part outcome left = absurd left
-stopped content command source source' sink input early late status.WriteFault reads part outcome left = absurd left
-stopped content command source source' sink input early late status.ConfigRead reads part outcome left = absurd left
-stopped content command source source' sink input early late (status.ConfigRefused fault) reads part outcome left =
+stopped content command source source' sink input early late status.Ok reads good part outcome left = absurd left
+stopped content command source source' sink input early late status.Usage reads good part outcome left = absurd left
+stopped content command source source' sink input early late status.WriteFault reads good part outcome left =
+    absurd left
+stopped content command source source' sink input early late (status.ScriptRefused line) reads good part outcome left =
+    absurd left
+stopped content command source source' sink input early late status.NoCrew reads good part outcome left = absurd left
+stopped content command source source' sink input early late status.ConfigRead reads good part outcome left =
+    absurd left
+stopped content command source source' sink input early late (status.ConfigRefused fault) reads good part outcome left =
     absurd left
 
 -- `encode` whose input was left before its end
@@ -249,7 +302,7 @@ pub encoding_stopped : EndIsSpelled Ipv4 → (content : Option (List ℕ → Lis
     → IsLeft source source' ends → Answered content (Encode side) source source' sink sink ends
 encoding_stopped law content side source source' sink input ends part left =
     let some = some_encoding law side input in
-    stopped content (Encode side) source source' sink input some.0 (last_text marker) ends tt part some.1 left
+    stopped content (Encode side) source source' sink input some.0 (last_text marker) ends tt tt part some.1 left
 
 -- `parse` whose input was left before its end
 pub parsing_stopped : (content : Option (List ℕ → List ℕ)) (source source' : SourceSeen) (sink : SinkSeen)
@@ -257,4 +310,4 @@ pub parsing_stopped : (content : Option (List ℕ → List ℕ)) (source source'
     → Answered content Parse source source' sink sink ends
 parsing_stopped content source source' sink input ends part left =
     let some = some_parsing input in
-    stopped content Parse source source' sink input some.0 [] ends tt part (some.1, refl) left
+    stopped content Parse source source' sink input some.0 [] ends tt tt part (some.1, refl) left

@@ -7,13 +7,14 @@ use Rattle.config_reader.specs.Files.{Configures, IsFirstFault}
 use Rattle.config_reader.specs.Outcomes.{FilesDoOne, FilesFaultOnce}
 use Rattle.outside.specs.Seen.{SourceSeen, SinkSeen}
 use Rattle.outside.specs.Told.{AreLeftFrom, CountsOne, Rose}
-use Rattle.exa_top.specs.declared.status.Status.{Status}
-use Rattle.exa_top.specs.declared.status.Status.TheVariants as status
+use Rattle.script_play.specs.declared.status.Status.{Status}
+use Rattle.script_play.specs.declared.status.Status.TheVariants as status
 use Rattle.exa_top.specs.declared.words.TextCommand.{TextCommand}
-use Rattle.exa_top.specs.declared.words.TextCommand.TheVariants.{Encode, Check, Parse, Decode, Help, Version}
-use Rattle.exa_top.specs.Configured.{AreTextSlots, IsConfigAt, IsFaultAt}
+use Rattle.exa_top.specs.declared.words.TextCommand.TheVariants.{Encode, Check, Play, Parse, Decode, Help, Version}
+use Rattle.text_history.specs.Configured.{AreTextSlots, IsConfigAt, IsFaultAt}
 use Rattle.exa_top.specs.Top.{input_limit, Answered, HasConfig, HasFault, IsConfigured, IsLeftShort, IsRefusedFor}
-use Rattle.exa_top.specs.Top.{IsToldConfig, IsToldFault, Ran, ReadsInput}
+use Rattle.exa_top.specs.Top.{IsToldConfig, IsToldFault, HasBadLine, HasScript, Ran, ReadsInput}
+use Rattle.exa_top.specs.Played.{IsBadScript, IsToldScript}
 use Rattle.exa_top.proofs.AnsweredLemmas.{whole_is_configured}
 
 -- what counted one fault rose
@@ -39,6 +40,8 @@ not_refused : FilesDoOne → (content : Option (List ℕ → List ℕ)) (command
 not_refused law content (Encode side) fault refused good = refused
 not_refused law content (Check path) fault refused good =
     config_apart law content path.now refused.0 fault refused.1 refused.2 good
+not_refused law content (Play path) fault refused good =
+    config_apart law content path.now refused.0 fault refused.1 refused.2 good
 not_refused law content Parse fault refused good = refused
 not_refused law content (Decode caps) fault refused good = refused
 not_refused law content Help fault refused good = refused
@@ -57,6 +60,8 @@ not_configured : FilesDoOne → (content : Option (List ℕ → List ℕ)) (comm
     → IsConfigured content command → HasFault content command fault → ⊥
 not_configured law content (Encode side) fault good told = told
 not_configured law content (Check path) fault good told =
+    fault_apart law content path.now good.0 good.2 fault good.1 good.3 told
+not_configured law content (Play path) fault good told =
     fault_apart law content path.now good.0 good.2 fault good.1 good.3 told
 not_configured law content Parse fault good told = told
 not_configured law content (Decode caps) fault good told = told
@@ -77,20 +82,29 @@ refused_once : FilesFaultOnce → (content : Option (List ℕ → List ℕ)) (co
 refused_once law content (Encode side) fault other refused told = absurd told
 refused_once law content (Check path) fault other refused told =
     fault_once law content path.now refused.0 fault other refused.1 refused.2 told
+refused_once law content (Play path) fault other refused told =
+    fault_once law content path.now refused.0 fault other refused.1 refused.2 told
 refused_once law content Parse fault other refused told = absurd told
 refused_once law content (Decode caps) fault other refused told = absurd told
 refused_once law content Help fault other refused told = absurd told
 refused_once law content Version fault other refused told = absurd told
 
--- a command whose file has a fault reads no input
-fault_reads : (content : Option (List ℕ → List ℕ)) (command : TextCommand) (fault : ConfigFault)
-    → HasFault content command fault → ReadsInput command → ⊥
-fault_reads content (Encode side) fault told reads = told
-fault_reads content (Check path) fault told reads = reads
-fault_reads content Parse fault told reads = told
-fault_reads content (Decode caps) fault told reads = told
-fault_reads content Help fault told reads = told
-fault_reads content Version fault told reads = told
+-- a script that has a line that is none isn't one without
+script_apart : (content : Option (List ℕ → List ℕ)) (path : List ℕ) (left : Option (List ℕ))
+    → IsBadScript content path left → IsToldScript content path left → ⊥
+script_apart content path None bad told = told
+script_apart content path (Some rest) bad told =
+    told bad.slots bad.config bad.number bad.history bad.slots_are bad.configured bad.legal bad.refused
+
+line_apart : (content : Option (List ℕ → List ℕ)) (command : TextCommand) (left : Option (List ℕ))
+    → HasBadLine content command left → HasScript content command left → ⊥
+line_apart content (Encode side) left bad told = bad
+line_apart content (Check path) left bad told = bad
+line_apart content (Play path) left bad told = script_apart content path.now left bad told
+line_apart content Parse left bad told = bad
+line_apart content (Decode caps) left bad told = bad
+line_apart content Help left bad told = bad
+line_apart content Version left bad told = bad
 
 -- what was read to its end had its configuration
 ran_configured : (content : Option (List ℕ → List ℕ)) (command : TextCommand) (source source' : SourceSeen)
@@ -114,33 +128,45 @@ refuses_it apart once content command source source' sink sink' fault (status.Co
     config =
     inl (ap status.ConfigRefused (refused_once once content command fault other (answered.refused other refl) told))
 refuses_it apart once content command source source' sink sink' fault status.ReadFault answered told config =
-    absurd (fault_reads content command fault told (answered.read_reads refl))
+    absurd (not_configured apart content command fault (answered.late tt) told)
 refuses_it apart once content command source source' sink sink' fault status.WriteFault answered told config =
-    absurd (not_configured apart content command fault (answered.write_late refl) told)
+    absurd (not_configured apart content command fault (answered.late tt) told)
 refuses_it apart once content command source source' sink sink' fault status.NoMemory answered told config = inr refl
 refuses_it apart once content command source source' sink sink' fault status.InputLong answered told config =
-    absurd (fault_reads content command fault told (answered.reads refl))
+    absurd (not_configured apart content command fault (answered.late tt) told)
+refuses_it apart once content command source source' sink sink' fault (status.ScriptRefused line) answered told config =
+    absurd (not_configured apart content command fault (answered.late tt) told)
+refuses_it apart once content command source source' sink sink' fault status.NoCrew answered told config =
+    absurd (answered.crew refl)
 
--- a command whose file is a configuration, whose input ends in time and whose devices didn't fail
+-- a command whose file is a configuration, whose input ends in time, and is a script where it plays one, and whose
+-- devices didn't fail
 pub completed : FilesDoOne → (content : Option (List ℕ → List ℕ)) (command : TextCommand)
     (source source' : SourceSeen) (sink sink' : SinkSeen) (ends : Status)
     → Answered content command source source' sink sink' ends → HasConfig content command
+    → HasScript content command source.left
     → (ReadsInput command → IsLeftShort input_limit source.left)
     → ¬ (ends ≡ status.ConfigRead) → ¬ Rose source.faults source'.faults → ¬ Rose sink.faults sink'.faults
     → (ends ≡ status.Ok) ⊎ (ends ≡ status.NoMemory)
-completed law content command source source' sink sink' status.Ok answered good short config read write = inl refl
-completed law content command source source' sink sink' status.NoMemory answered good short config read write =
+completed law content command source source' sink sink' status.Ok answered good script short config read write =
+    inl refl
+completed law content command source source' sink sink' status.NoMemory answered good script short config read write =
     inr refl
-completed law content command source source' sink sink' status.Usage answered good short config read write =
+completed law content command source source' sink sink' status.Usage answered good script short config read write =
     absurd (answered.spelled refl)
-completed law content command source source' sink sink' status.ConfigRead answered good short config read write =
+completed law content command source source' sink sink' status.ConfigRead answered good script short config read write =
     absurd (config refl)
-completed law content command source source' sink sink' (status.ConfigRefused fault) answered good short config read
-    write =
+completed law content command source source' sink sink' (status.ConfigRefused fault) answered good script short config
+    read write =
     absurd (not_refused law content command fault (answered.refused fault refl) good)
-completed law content command source source' sink sink' status.ReadFault answered good short config read write =
+completed law content command source source' sink sink' status.ReadFault answered good script short config read write =
     absurd (read (counts_rose source.faults source'.faults (answered.read refl)))
-completed law content command source source' sink sink' status.WriteFault answered good short config read write =
+completed law content command source source' sink sink' status.WriteFault answered good script short config read write =
     absurd (write (counts_rose sink.faults sink'.faults (answered.write refl)))
-completed law content command source source' sink sink' status.InputLong answered good short config read write =
+completed law content command source source' sink sink' status.InputLong answered good script short config read write =
     absurd (left_short input_limit source.left (short (answered.reads refl)) (answered.long refl).left)
+completed law content command source source' sink sink' (status.ScriptRefused line) answered good script short config
+    read write =
+    absurd (line_apart content command source.left (answered.bad line refl) script)
+completed law content command source source' sink sink' status.NoCrew answered good script short config read write =
+    absurd (answered.crew refl)

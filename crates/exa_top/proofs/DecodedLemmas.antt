@@ -8,8 +8,8 @@ use Rattle.route_values.specs.Caps.{Caps}
 use Rattle.message_decoder.specs.declared.halt.Halt.{Halt}
 use Rattle.message_decoder.specs.declared.halt.Halt.TheVariants as halt
 use Rattle.message_decoder.specs.Streams.{DecodedPart, DecodedWhole}
-use Rattle.exa_top.specs.declared.status.Status.{Status}
-use Rattle.exa_top.specs.declared.status.Status.TheVariants as status
+use Rattle.script_play.specs.declared.status.Status.{Status}
+use Rattle.script_play.specs.declared.status.Status.TheVariants as status
 use Rattle.exa_top.specs.declared.words.TextCommand.TheVariants.{Decode}
 use Rattle.exa_top.specs.Decoded.{status_halted}
 use Rattle.exa_top.specs.Top.{input_limit, Answered, Broke, Ran}
@@ -62,65 +62,69 @@ halted_is : (content : Option (List ℕ → List ℕ)) (caps : Caps) (source sou
     → Answered content (Decode caps) source source' sink sink' (status_halted halted)
 halted_is content caps source source' sink sink' halt.Memory is = record {
   spelled = λ ends. absurd (cc);
+  crew = λ ends. absurd (cc);
   ok = λ ends. absurd (cc);
   broke = λ other. part_broke content caps source source' sink sink' halt.Memory is;
   unread = λ ends. absurd (cc);
   refused = λ fault ends. absurd (cc);
+  bad = λ line ends. absurd (cc);
   read = λ ends. absurd (cc);
   read_same = λ other. is.stops.0;
   write = λ ends. absurd (cc);
   write_same = λ other. is.stops.1;
-  write_late = λ ends. tt;
+  late = λ ends. tt;
   reads = λ ends. tt;
-  read_reads = λ ends. tt;
   long = λ ends. absurd (cc);
   over = λ from. inr (inr refl);
 }
 halted_is content caps source source' sink sink' halt.Read is = record {
   spelled = λ ends. absurd (cc);
+  crew = λ ends. absurd (cc);
   ok = λ ends. absurd (cc);
   broke = λ other. part_broke content caps source source' sink sink' halt.Read is;
   unread = λ ends. absurd (cc);
   refused = λ fault ends. absurd (cc);
+  bad = λ line ends. absurd (cc);
   read = λ ends. is.stops.0;
   read_same = λ other. absurd (other refl);
   write = λ ends. absurd (cc);
   write_same = λ other. is.stops.1;
-  write_late = λ ends. tt;
+  late = λ ends. tt;
   reads = λ ends. tt;
-  read_reads = λ ends. tt;
   long = λ ends. absurd (cc);
   over = λ from. inr (inl refl);
 }
 halted_is content caps source source' sink sink' halt.Write is = record {
   spelled = λ ends. absurd (cc);
+  crew = λ ends. absurd (cc);
   ok = λ ends. absurd (cc);
   broke = λ other. part_broke content caps source source' sink sink' halt.Write is;
   unread = λ ends. absurd (cc);
   refused = λ fault ends. absurd (cc);
+  bad = λ line ends. absurd (cc);
   read = λ ends. absurd (cc);
   read_same = λ other. is.stops.0;
   write = λ ends. is.stops.1;
   write_same = λ other. absurd (other refl);
-  write_late = λ ends. tt;
+  late = λ ends. tt;
   reads = λ ends. tt;
-  read_reads = λ ends. tt;
   long = λ ends. absurd (cc);
   over = λ from. absurd (few_given input_limit source.given source'.given is.bytes is.read.given is.stops.2 from);
 }
 halted_is content caps source source' sink sink' halt.Long is = record {
   spelled = λ ends. absurd (cc);
+  crew = λ ends. absurd (cc);
   ok = λ ends. absurd (cc);
   broke = λ other. part_broke content caps source source' sink sink' halt.Long is;
   unread = λ ends. absurd (cc);
   refused = λ fault ends. absurd (cc);
+  bad = λ line ends. absurd (cc);
   read = λ ends. absurd (cc);
   read_same = λ other. is.stops.0;
   write = λ ends. absurd (cc);
   write_same = λ other. is.stops.1;
-  write_late = λ ends. tt;
+  late = λ ends. tt;
   reads = λ ends. tt;
-  read_reads = λ ends. tt;
   long = λ ends. record {
     bytes = is.bytes;
     given = is.read.given;
@@ -144,17 +148,18 @@ pub whole_answered : (content : Option (List ℕ → List ℕ)) (caps : Caps) (s
     → Answered content (Decode caps) source source' sink sink' status.Ok
 whole_answered content caps source source' sink sink' whole = record {
   spelled = λ is. absurd (cc);
+  crew = λ is. absurd (cc);
   ok = λ is. whole_ran content caps source source' sink sink' whole;
   broke = λ other. absurd (other refl);
   unread = λ is. absurd (cc);
   refused = λ fault is. absurd (cc);
+  bad = λ line is. absurd (cc);
   read = λ is. absurd (cc);
   read_same = λ other. whole.read.same;
   write = λ is. absurd (cc);
   write_same = λ other. whole.written.same;
-  write_late = λ is. absurd (cc);
+  late = λ is. absurd is;
   reads = λ is. absurd (cc);
-  read_reads = λ is. absurd (cc);
   long = λ is. absurd (cc);
   over = λ from. absurd (few_given input_limit source.given source'.given whole.bytes whole.read.given whole.read.short
       from);

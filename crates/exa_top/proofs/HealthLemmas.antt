@@ -10,8 +10,8 @@ use Rattle.outside.specs.Seen.{SinkSeen}
 use Rattle.outside.specs.Told.{CountsOne, Rose}
 use Rattle.health_core.specs.declared.health.Health.{Health}
 use Rattle.health_core.specs.Files.{FilesDoOne, FilesFaultOnce, HasFirstFault, SaysHealth}
-use Rattle.exa_top.specs.declared.status.Status.{Status}
-use Rattle.exa_top.specs.declared.status.Status.TheVariants as status
+use Rattle.script_play.specs.declared.status.Status.{Status}
+use Rattle.script_play.specs.declared.status.Status.TheVariants as status
 use Rattle.exa_top.specs.Files.{IsLost, max_file}
 use Rattle.exa_top.specs.Health.{HealthEnds, IsHealthAt, IsHealthFaultAt, IsHealthUnread, IsHealthcheck}
 use Rattle.exa_top.specs.Health.{IsToldHealth, IsToldHealthFault, WatchEnds}
@@ -35,6 +35,8 @@ lost_unread content path status.Ok lost = absurd lost
 lost_unread content path status.Usage lost = absurd lost
 lost_unread content path status.ReadFault lost = absurd lost
 lost_unread content path status.WriteFault lost = absurd lost
+lost_unread content path (status.ScriptRefused line) lost = absurd lost
+lost_unread content path status.NoCrew lost = absurd lost
 lost_unread content path status.InputLong lost = absurd lost
 
 -- a watch of a file that says a health check
@@ -51,6 +53,8 @@ ends_watched content path health checks checks' sink sink' status.Usage is watch
 ends_watched content path health checks checks' sink sink' status.ConfigRead is watched = absurd watched
 ends_watched content path health checks checks' sink sink' (status.ConfigRefused fault) is watched = absurd watched
 ends_watched content path health checks checks' sink sink' status.ReadFault is watched = absurd watched
+ends_watched content path health checks checks' sink sink' (status.ScriptRefused line) is watched = absurd watched
+ends_watched content path health checks checks' sink sink' status.NoCrew is watched = absurd watched
 ends_watched content path health checks checks' sink sink' status.InputLong is watched = absurd watched
 
 -- a file that says none
@@ -65,6 +69,8 @@ ends_unread content path checks sink status.Ok is = absurd is
 ends_unread content path checks sink status.Usage is = absurd is
 ends_unread content path checks sink status.ReadFault is = absurd is
 ends_unread content path checks sink status.WriteFault is = absurd is
+ends_unread content path checks sink (status.ScriptRefused line) is = absurd is
+ends_unread content path checks sink status.NoCrew is = absurd is
 ends_unread content path checks sink status.InputLong is = absurd is
 
 rose : (before now : ℕ) → CountsOne before now → Rose before now
@@ -115,6 +121,10 @@ refuses content path checks checks' sink sink' fault faults faults' status.Usage
     absurd is
 refuses content path checks checks' sink sink' fault faults faults' status.ReadFault law once is told count still =
     absurd is
+refuses content path checks checks' sink sink' fault faults faults' (status.ScriptRefused line) law once is told
+    count still = absurd is
+refuses content path checks checks' sink sink' fault faults faults' status.NoCrew law once is told count still =
+    absurd is
 refuses content path checks checks' sink sink' fault faults faults' status.InputLong law once is told count still =
     absurd is
 
@@ -137,6 +147,10 @@ completes content path checks checks' sink sink' health faults faults' (status.C
 completes content path checks checks' sink sink' health faults faults' status.Usage law is told count still quiet =
     absurd is
 completes content path checks checks' sink sink' health faults faults' status.ReadFault law is told count still quiet =
+    absurd is
+completes content path checks checks' sink sink' health faults faults' (status.ScriptRefused line) law is told count
+    still quiet = absurd is
+completes content path checks checks' sink sink' health faults faults' status.NoCrew law is told count still quiet =
     absurd is
 completes content path checks checks' sink sink' health faults faults' status.InputLong law is told count still quiet =
     absurd is

@@ -14,5 +14,5 @@ pub mod CheckedLemmas
 pub mod DecodedLemmas
 pub mod CompleteLemmas
 pub mod FileLemmas
-pub mod ConfiguredLemmas
+pub mod PlayedLemmas
 pub mod HealthLemmas

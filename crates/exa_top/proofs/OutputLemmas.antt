@@ -43,7 +43,7 @@ none_wanted false side word none = refl
 
 -- so some output belongs to any input
 pub some_encoding : EndIsSpelled Ipv4 → (side : Side) (input : List ℕ)
-    → (early : List ℕ) × IsOutput (Encode side) input early (last_text marker)
+    → (early : List ℕ) × IsOutput None (Encode side) input early (last_text marker)
 some_encoding law side input = (
   flat_map reply_text (no_rooms (lines input)),
   (
@@ -106,7 +106,7 @@ some_parsing input = (
 pub record IsParted (side : Side) (input output : List ℕ) : Type 0 where
   pub early : List ℕ
   pub late : List ℕ
-  pub outcome : IsOutput (Encode side) input early late
+  pub outcome : IsOutput None (Encode side) input early late
   pub output_is : output ≡ early ++ late
 
 -- the replies come early, and the messages late

@@ -4,7 +4,7 @@ use Rattle.route_values.specs.Caps.{Caps}
 use Rattle.exa_top.specs.CapWords.{AreCaps}
 use Rattle.exa_top.specs.Words.{IsCommand}
 use Rattle.exa_top.specs.declared.words.TextCommand.{TextCommand}
-use Rattle.exa_top.specs.declared.words.TextCommand.TheVariants.{Encode, Check, Parse, Decode, Help, Version}
+use Rattle.exa_top.specs.declared.words.TextCommand.TheVariants.{Encode, Check, Play, Parse, Decode, Help, Version}
 
 pub local_as_is : (a b c a' b' c' : List ℕ) → codes "encode" ∷ a ∷ b ∷ c ∷ [] ≡ codes "encode" ∷ a' ∷ b' ∷ c' ∷ []
     → a ≡ a'
@@ -42,6 +42,8 @@ decode_none words none (Encode side) is =
     let letter : 100 ≡ 101 = first_letter _ _ is.words_are in absurd (omega (arith, letter))
 decode_none words none (Check path) is =
     let letter : 100 ≡ 99 = first_letter _ _ is in absurd (omega (arith, letter))
+decode_none words none (Play path) is =
+    let letter : 100 ≡ 112 = first_letter _ _ is in absurd (omega (arith, letter))
 decode_none words none Parse is =
     let letter : 100 ≡ 112 = first_letter _ _ is in absurd (omega (arith, letter))
 decode_none words none (Decode caps) is =

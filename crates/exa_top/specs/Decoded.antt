@@ -1,8 +1,8 @@
 -- How `decode` ends.
 use Rattle.message_decoder.specs.declared.halt.Halt.{Halt}
 use Rattle.message_decoder.specs.declared.halt.Halt.TheVariants as halt
-use Rattle.exa_top.specs.declared.status.Status.{Status}
-use Rattle.exa_top.specs.declared.status.Status.TheVariants as status
+use Rattle.script_play.specs.declared.status.Status.{Status}
+use Rattle.script_play.specs.declared.status.Status.TheVariants as status
 
 -- why decoding halted, as a status
 abbrev pub status_halted : Halt → Status

@@ -7,8 +7,8 @@ use Rattle.outside.specs.Opening.{IsLonger}
 use Rattle.config_reader.specs.declared.fault.ConfigError.{ConfigError}
 use Rattle.config_reader.specs.declared.fault.ConfigError.TheVariants as error
 use Rattle.config_reader.specs.Files.{too_long}
-use Rattle.exa_top.specs.declared.status.Status.{Status}
-use Rattle.exa_top.specs.declared.status.Status.TheVariants as status
+use Rattle.script_play.specs.declared.status.Status.{Status}
+use Rattle.script_play.specs.declared.status.Status.TheVariants as status
 
 -- how many bytes a file may have
 abbrev pub max_file : ℕ

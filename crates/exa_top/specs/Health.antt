@@ -11,8 +11,8 @@ use Rattle.health_core.specs.declared.health.Health.{Health}
 use Rattle.health_core.specs.Files.{SaysHealth, HasFirstFault}
 use Rattle.health_core.specs.Printing.{IsSound}
 use Rattle.health_core.specs.Watching.{Watched, WatchedPart}
-use Rattle.exa_top.specs.declared.status.Status.{Status}
-use Rattle.exa_top.specs.declared.status.Status.TheVariants as status
+use Rattle.script_play.specs.declared.status.Status.{Status}
+use Rattle.script_play.specs.declared.status.Status.TheVariants as status
 
 -- `healthcheck FILE`
 abbrev pub IsHealthcheck : List (List ℕ) → List ℕ → Type 0

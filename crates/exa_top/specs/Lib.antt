@@ -2,13 +2,12 @@ pub mod Commands
 pub mod Answers
 pub mod Encoding
 pub mod Parsing
-pub mod Configured
 pub mod Files
 pub mod CapWords
 pub mod Words
 pub mod Decoded
+pub mod Played
 pub mod Top
 pub mod Slots
-pub mod Status
 pub mod Messages
 pub mod Health

@@ -10,14 +10,15 @@ use Rattle.config_model.specs.declared.slots.Slots.{Slots}
 use Rattle.config_model.specs.Sections.{Sections}
 use Rattle.config_reader.specs.Files.{Configures, IsFirstFault}
 use Rattle.outside.specs.Told.{Grows, Shrinks, AreLeft, AreLeftFrom, CountsOne}
-use Rattle.exa_top.specs.declared.status.Status.{Status}
-use Rattle.exa_top.specs.declared.status.Status.TheVariants as status
+use Rattle.script_play.specs.declared.status.Status.{Status}
+use Rattle.script_play.specs.declared.status.Status.TheVariants as status
 use Rattle.exa_top.specs.declared.words.TextCommand.{TextCommand}
-use Rattle.exa_top.specs.declared.words.TextCommand.TheVariants.{Encode, Check, Parse, Decode, Help, Version}
+use Rattle.exa_top.specs.declared.words.TextCommand.TheVariants.{Encode, Check, Play, Parse, Decode, Help, Version}
 use Rattle.exa_top.specs.Answers.{reply_text}
-use Rattle.exa_top.specs.Configured.{AreTextSlots, IsConfigAt, IsFaultAt}
+use Rattle.text_history.specs.Configured.{AreTextSlots, IsConfigAt, IsFaultAt}
 use Rattle.exa_top.specs.Encoding.{IsEncoding}
 use Rattle.exa_top.specs.Parsing.{IsParsing}
+use Rattle.exa_top.specs.Played.{IsBadScript, IsPlayed, IsPlayedPart, IsToldScript, PlaysFile}
 use Rattle.exa_top.specs.Words.{IsCommand}
 use Rattle.message_decoder.specs.Decoding.{IsDecoding}
 use Rattle.message_decoder.specs.Streams.{AreEnded}
@@ -41,6 +42,8 @@ help_text =
     ++ codes "           reads announce and withdraw lines, writes replies and UPDATE messages\n"
     ++ codes "       exabgpd check CONFIG\n"
     ++ codes "           reads a configuration file, writes ok or says what its first fault is\n"
+    ++ codes "       exabgpd play CONFIG\n"
+    ++ codes "           reads a script of events, writes what each is answered\n"
     ++ codes "       exabgpd parse\n"
     ++ codes "           reads command lines, writes for each whether it reads or where its first fault is\n"
     ++ codes "       exabgpd decode CAP ..\n"
@@ -51,26 +54,37 @@ help_text =
     ++ codes "       exabgpd --version\n" ++ codes "           writes the name and the version\n"
 
 -- The output that belongs to a command and what it read: what may be written while that is read, and what only after
--- its end. Replies to lines come early, and the messages late, and so does the line of `check`. What `decode` writes
--- comes as early as the lines that it belongs to.
-abbrev pub IsOutput : TextCommand → List ℕ → List ℕ → List ℕ → Type 0
-IsOutput (Encode side) input early late =
+-- its end. Replies to lines come early, and the messages late, and so does the line of `check`. What `decode` and
+-- `play` write comes as early as the lines that it belongs to.
+abbrev pub IsOutput : Option (List ℕ → List ℕ) → TextCommand → List ℕ → List ℕ → List ℕ → Type 0
+IsOutput content (Encode side) input early late =
     (whole : IsEncoding side input (early ++ late)) × (early ≡ flat_map reply_text whole.entries)
-IsOutput (Check path) input early late = (early ≡ []) × (late ≡ checked_text)
-IsOutput Parse input early late = IsParsing input early × (late ≡ [])
-IsOutput (Decode caps) input early late = IsDecoding caps input early × (late ≡ [])
-IsOutput Help input early late = (early ≡ help_text) × (late ≡ [])
-IsOutput Version input early late = (early ≡ version_text) × (late ≡ [])
+IsOutput content (Check path) input early late = (early ≡ []) × (late ≡ checked_text)
+IsOutput content (Play path) input early late = IsPlayed content path.now input early × (late ≡ [])
+IsOutput content Parse input early late = IsParsing input early × (late ≡ [])
+IsOutput content (Decode caps) input early late = IsDecoding caps input early × (late ≡ [])
+IsOutput content Help input early late = (early ≡ help_text) × (late ≡ [])
+IsOutput content Version input early late = (early ≡ version_text) × (late ≡ [])
+
+-- The output of a command that didn't come to its end. A script may be refused at a line, and then no output belongs to
+-- the whole of it.
+abbrev pub IsPartOutput : Option (List ℕ → List ℕ) → TextCommand → List ℕ → List ℕ → List ℕ → Type 0
+IsPartOutput content (Play path) input early late = IsPlayedPart content path.now input early × (late ≡ [])
+IsPartOutput content command input early late = IsOutput content command input early late
 
 -- the file that a command names, if it names one, is a configuration for the slots of a text command
 abbrev pub IsConfigured : Option (List ℕ → List ℕ) → TextCommand → Type 0
 IsConfigured content (Check path) =
+    (slots : Slots) × AreTextSlots slots × (config : Sections) × IsConfigAt content path.now slots config
+IsConfigured content (Play path) =
     (slots : Slots) × AreTextSlots slots × (config : Sections) × IsConfigAt content path.now slots config
 IsConfigured content _ = ⊤
 
 -- a command names a file, whose bytes have this first fault
 abbrev pub IsRefusedFor : Option (List ℕ → List ℕ) → TextCommand → ConfigFault → Type 0
 IsRefusedFor content (Check path) fault =
+    (slots : Slots) × AreTextSlots slots × IsFaultAt content path.now slots fault
+IsRefusedFor content (Play path) fault =
     (slots : Slots) × AreTextSlots slots × IsFaultAt content path.now slots fault
 IsRefusedFor content _ fault = ⊥
 
@@ -83,6 +97,7 @@ IsToldConfig (Some content) path =
 -- the same of the file that a command names, if it names one
 abbrev pub HasConfig : Option (List ℕ → List ℕ) → TextCommand → Type 0
 HasConfig content (Check path) = IsToldConfig content path.now
+HasConfig content (Play path) = IsToldConfig content path.now
 HasConfig content _ = ⊤
 
 -- the content of a path is told, and has this first fault
@@ -94,19 +109,37 @@ IsToldFault (Some content) path fault =
 -- the same of the file that a command names
 abbrev pub HasFault : Option (List ℕ → List ℕ) → TextCommand → ConfigFault → Type 0
 HasFault content (Check path) fault = IsToldFault content path.now fault
+HasFault content (Play path) fault = IsToldFault content path.now fault
 HasFault content _ fault = ⊥
 
 -- a command names a file
 abbrev pub NamesFile : TextCommand → Type 0
 NamesFile (Check path) = ⊤
+NamesFile (Play path) = ⊤
 NamesFile _ = ⊥
 
 -- a command reads its input
 abbrev pub ReadsInput : TextCommand → Type 0
 ReadsInput (Encode side) = ⊤
+ReadsInput (Play path) = ⊤
 ReadsInput Parse = ⊤
 ReadsInput (Decode caps) = ⊤
 ReadsInput _ = ⊥
+
+-- a command plays a script
+abbrev pub PlaysScript : TextCommand → Type 0
+PlaysScript (Play path) = ⊤
+PlaysScript _ = ⊥
+
+-- what a source has left is a script with a line that is none
+abbrev pub HasBadLine : Option (List ℕ → List ℕ) → TextCommand → Option (List ℕ) → Type 0
+HasBadLine content (Play path) left = IsBadScript content path.now left
+HasBadLine content _ left = ⊥
+
+-- the script that a command reads, if it reads one, is told and has no such line
+abbrev pub HasScript : Option (List ℕ → List ℕ) → TextCommand → Option (List ℕ) → Type 0
+HasScript content (Play path) left = IsToldScript content path.now left
+HasScript content _ left = ⊤
 
 -- A source was read to its end, which came before the limit. Where it told what it had left, this was all of it.
 pub record ReadToEnd (source source' : SourceSeen) (bytes : List ℕ) : Type 0 where
@@ -136,11 +169,14 @@ pub record ReadNothing (source source' : SourceSeen) (bytes : List ℕ) : Type 0
   pub same : source' ≡ source
   pub none : bytes ≡ []
 
--- what a command reads that ends well: `check` its file, `--help` and `--version` nothing, others all of their input
+-- what a command reads that ends well: `check` and `play` their file, and all but `check`, `--help` and `--version` the
+-- whole of their input
 abbrev pub ReadsWhole : Option (List ℕ → List ℕ) → TextCommand → SourceSeen → SourceSeen → List ℕ → Type 0
 ReadsWhole content (Encode side) source source' bytes = ReadToEnd source source' bytes
 ReadsWhole content (Check path) source source' bytes =
     ReadNothing source source' bytes × IsConfigured content (Check path)
+ReadsWhole content (Play path) source source' bytes =
+    ReadToEnd source source' bytes × IsConfigured content (Play path)
 ReadsWhole content Parse source source' bytes = ReadToEnd source source' bytes
 ReadsWhole content (Decode caps) source source' bytes = ReadToEnd source source' bytes
 ReadsWhole content Help source source' bytes = ReadNothing source source' bytes
@@ -151,6 +187,7 @@ ReadsWhole content Version source source' bytes = ReadNothing source source' byt
 abbrev pub ReadsPart : TextCommand → SourceSeen → SourceSeen → List ℕ → Type 0
 ReadsPart (Encode side) source source' bytes = ReadPart source source' bytes
 ReadsPart (Check path) source source' bytes = ReadNothing source source' bytes
+ReadsPart (Play path) source source' bytes = ReadPart source source' bytes
 ReadsPart Parse source source' bytes = ReadPart source source' bytes
 ReadsPart (Decode caps) source source' bytes = ReadFront source source' bytes
 ReadsPart Help source source' bytes = ReadNothing source source' bytes
@@ -163,7 +200,7 @@ pub record Ran (content : Option (List ℕ → List ℕ)) (command : TextCommand
   pub early : List ℕ
   pub late : List ℕ
   pub read : ReadsWhole content command source source' input
-  pub outcome : IsOutput command input early late
+  pub outcome : IsOutput content command input early late
   pub written : Grows sink.taken sink'.taken (early ++ late)
 
 -- A command read a part of its input and wrote a front part of the output that belongs to what it read. It wrote more
@@ -175,7 +212,7 @@ pub record Broke (content : Option (List ℕ → List ℕ)) (command : TextComma
   pub late : List ℕ
   pub part : List ℕ
   pub read : ReadsPart command source source' input
-  pub outcome : IsOutput command input early late
+  pub outcome : IsPartOutput content command input early late
   pub front : (rest : List ℕ) × (early ++ late ≡ part ++ rest)
   pub written : Grows sink.taken sink'.taken part
   pub past : length early < length part → ReadsWhole content command source source' input
@@ -208,25 +245,33 @@ IsOverrun ends = (ends ≡ status.InputLong) ⊎ (ends ≡ status.ReadFault) ⊎
 -- a command ends so only before it reads its input and writes
 abbrev pub EndsAtOnce : Status → Type 0
 EndsAtOnce status.Usage = ⊤
-EndsAtOnce status.ConfigRead = ⊤
 EndsAtOnce (status.ConfigRefused fault) = ⊤
 EndsAtOnce _ = ⊥
+
+-- a command ends so only behind its file, if it names one
+abbrev pub EndsLate : Status → Type 0
+EndsLate (status.ScriptRefused line) = ⊤
+EndsLate status.ReadFault = ⊤
+EndsLate status.WriteFault = ⊤
+EndsLate status.InputLong = ⊤
+EndsLate _ = ⊥
 
 -- the status of a command that was run, and what its devices then show
 pub record Answered (content : Option (List ℕ → List ℕ)) (command : TextCommand) (source source' : SourceSeen)
     (sink sink' : SinkSeen) (ends : Status) : Type 0 where
   pub spelled : ¬ (ends ≡ status.Usage)
+  pub crew : ¬ (ends ≡ status.NoCrew)
   pub ok : ends ≡ status.Ok → Ran content command source source' sink sink'
   pub broke : ¬ (ends ≡ status.Ok) → Broke content command source source' sink sink'
   pub unread : ends ≡ status.ConfigRead → NamesFile command
   pub refused : (fault : ConfigFault) → ends ≡ status.ConfigRefused fault → IsRefusedFor content command fault
+  pub bad : (line : ℕ) → ends ≡ status.ScriptRefused line → HasBadLine content command source.left
   pub read : ends ≡ status.ReadFault → CountsOne source.faults source'.faults
   pub read_same : ¬ (ends ≡ status.ReadFault) → source'.faults ≡ source.faults
   pub write : ends ≡ status.WriteFault → CountsOne sink.faults sink'.faults
   pub write_same : ¬ (ends ≡ status.WriteFault) → sink'.faults ≡ sink.faults
-  pub write_late : ends ≡ status.WriteFault → IsConfigured content command
+  pub late : EndsLate ends → IsConfigured content command
   pub reads : ends ≡ status.InputLong → ReadsInput command
-  pub read_reads : ends ≡ status.ReadFault → ReadsInput command
   pub long : ends ≡ status.InputLong → GaveLimit input_limit source source'
   pub over : GaveFrom input_limit source.given source'.given → IsOverrun ends
 
@@ -266,6 +311,21 @@ ReadInput words = (command : TextCommand) × IsCommand words command × ReadsInp
 -- the words spell a command whose file, if it names one, is a configuration
 abbrev pub AreConfigured : List (List ℕ) → Option (List ℕ → List ℕ) → Type 0
 AreConfigured words content = (command : TextCommand) × IsCommand words command × IsConfigured content command
+
+-- the words spell a command that plays a script
+abbrev pub PlayScript : List (List ℕ) → Type 0
+PlayScript words = (command : TextCommand) × IsCommand words command × PlaysScript command
+
+-- the script of any command that the words spell, if it reads one, is told and has no line that is none
+abbrev pub HaveScript : List (List ℕ) → Option (List ℕ → List ℕ) → Option (List ℕ) → Type 0
+HaveScript words content left = (command : TextCommand) → IsCommand words command → HasScript content command left
+
+-- what a command leaves that plays a script
+abbrev pub PlaysIts : Option (List ℕ → List ℕ) → TextCommand → SourceSeen → SourceSeen → SinkSeen → SinkSeen → ℕ → ℕ
+    → Status → Type 0
+PlaysIts content (Play path) source source' sink sink' files files' ends =
+    PlaysFile content path.now source source' sink sink' files files' ends
+PlaysIts content _ source source' sink sink' files files' ends = ⊤
 
 -- a source tells what it has left, and that is fewer bytes than the limit
 abbrev pub IsLeftShort : ℕ → Option (List ℕ) → Type 0

@@ -7,7 +7,7 @@ use Rattle.text_forms.specs.Addresses.{IsIpv4}
 use Rattle.text_forms.specs.Numbers.{IsAsn}
 use Rattle.exa_top.specs.CapWords.{AreCaps}
 use Rattle.exa_top.specs.declared.words.TextCommand.{TextCommand}
-use Rattle.exa_top.specs.declared.words.TextCommand.TheVariants.{Encode, Check, Parse, Decode, Help, Version}
+use Rattle.exa_top.specs.declared.words.TextCommand.TheVariants.{Encode, Check, Play, Parse, Decode, Help, Version}
 
 -- `encode LOCAL_AS PEER_AS LOCAL_IP`
 pub record IsEncode (words : List (List ℕ)) (side : Side) : Type 0 where
@@ -29,6 +29,7 @@ IsDecode words caps = (names : List (List ℕ)) × (words ≡ codes "decode" ∷
 abbrev pub IsCommand : List (List ℕ) → TextCommand → Type 0
 IsCommand words (Encode side) = IsEncode words side
 IsCommand words (Check path) = words ≡ codes "check" ∷ path.now ∷ []
+IsCommand words (Play path) = words ≡ codes "play" ∷ path.now ∷ []
 IsCommand words Parse = words ≡ codes "parse" ∷ []
 IsCommand words (Decode caps) = IsDecode words caps
 IsCommand words Help = words ≡ codes "--help" ∷ []

@@ -5,11 +5,11 @@ ghost use Rattle.exa_top.specs.Decoded.{status_halted};
 ghost use Rattle.exa_top.specs.Top.{Answered};
 ghost use Rattle.exa_top.specs.declared.words.TextCommand.TheVariants.{Decode};
 
-use crate::status::Status;
 use crate::top::MAX_INPUT;
 use message_decoder::{Halt, decode_all};
 use outside::{Sink, Source};
 use route_values::Caps;
+use script_play::Status;
 use std::alloc::Global;
 
 /// Reads messages of a session with these capabilities to the end of the input, and writes what each does as it comes.

@@ -5,10 +5,10 @@ ghost use Rattle.outside.specs.Opening.{IsContent};
 ghost use Rattle.outside.specs.Told.{CountsOne};
 ghost use Rattle.exa_top.specs.Files.{IsLost, status_unread, status_wrong};
 
-use crate::status::Status;
 use config_model::{ConfigFault, ConfigKind};
 use config_reader::ConfigError;
 use outside::{Files, Unread, read_file};
+use script_play::Status;
 use std::alloc::Global;
 use token_reader::MAX_FILE;
 

@@ -10,9 +10,9 @@ ghost use Rattle.exa_top.specs.Health.{IsToldHealth, IsToldHealthFault, WatchEnd
 
 use crate::command::is;
 use crate::files::{bytes_at, status_wrong};
-use crate::status::Status;
 use health_core::{Health, Unwatched, health_files_say_one, read_health, watch};
 use outside::{Files, Pause, Probe, Sink};
+use script_play::Status;
 use std::alloc::Global;
 
 /// Runs the health check that the words spell: `healthcheck FILE`.

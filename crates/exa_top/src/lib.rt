@@ -12,20 +12,19 @@
 mod answering;
 mod caps;
 mod command;
-mod configured;
 mod decoding;
 mod encoding;
 mod files;
 mod health;
 mod messages;
 mod parsing;
-mod status;
+mod playing;
 mod table;
 mod top;
 mod words;
 
 pub use health::exabgp_health;
-pub use status::{STATUS_ROOM, Status};
+pub use script_play::{STATUS_ROOM, Status};
 pub use top::exabgp_text;
 
 #[cfg(test)]

@@ -7,6 +7,7 @@ use std::test::Fail;
 
 mod checking;
 mod decoding;
+mod playing;
 mod watching;
 
 const ROUTE: &str = "announce route 10.0.0.0/24 next-hop 192.0.2.1\n";
@@ -202,12 +203,14 @@ fn help_and_version_write_their_texts(rt: HostRuntime) -> Result<(), Fail> {
 
 #[test]
 fn words_that_spell_no_command_are_usage_and_touch_nothing(rt: HostRuntime) -> Result<(), Fail> {
-    let table: [&[&str]; 10] = [
+    let table: [&[&str]; 12] = [
         &[],
         &["frob"],
         &["encode"],
         &["check"],
         &["check", "one.conf", "two.conf"],
+        &["play"],
+        &["play", "one.conf", "two.conf"],
         &["parse", "one.conf"],
         &["encode", "one.conf"],
         &["encode", "0", "65002", "192.0.2.9"],
@@ -301,7 +304,7 @@ fn each_status_has_its_number_and_its_line(rt: HostRuntime) -> Result<(), Fail> 
         column: u32::MAX,
         kind: ConfigKind::NoProcess,
     };
-    let table: [(Status, u8, &str); 8] = [
+    let table: [(Status, u8, &str); 10] = [
         (Status::Ok, 0, ""),
         (Status::Usage, 2, "exabgp: usage\n"),
         (Status::ConfigRead, 3, "exabgp: configuration not read\n"),
@@ -310,8 +313,14 @@ fn each_status_has_its_number_and_its_line(rt: HostRuntime) -> Result<(), Fail> 
             4,
             "exabgp: configuration 4294967295:4294967295 no-process\n",
         ),
+        (
+            Status::ScriptRefused(u64::MAX),
+            5,
+            "exabgp: script 18446744073709551615\n",
+        ),
         (Status::ReadFault, 6, "exabgp: read fault\n"),
         (Status::WriteFault, 7, "exabgp: write fault\n"),
+        (Status::NoCrew, 8, "exabgp: no crew\n"),
         (Status::NoMemory, 9, "exabgp: no memory\n"),
         (Status::InputLong, 10, "exabgp: input too long\n"),
     ];

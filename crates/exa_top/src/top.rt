@@ -1,11 +1,13 @@
 //! The top call.
-ghost use Rattle.std.specs.Prelude.{◌≡◌, ◌⊎◌, List, ℕ, Option, map, IfOk, IfErr, OnOk, OnErr};
+ghost use Rattle.std.specs.Prelude.{◌≡◌, ◌⊎◌, codes, List, [], ◌∷◌, ℕ, Option, map};
+ghost use Rattle.std.specs.Prelude.{IfOk, IfErr, OnOk, OnErr};
 ghost use Rattle.config_model.specs.declared.fault.ConfigFault.{ConfigFault as Fault};
-ghost use Rattle.exa_top.specs.Top.{Answered, AreConfigured, Began, EndsAtOnce, Finished};
-ghost use Rattle.exa_top.specs.Top.{GaveFrom, GaveLimit, HaveConfig, HaveFault, IsLeft};
+ghost use Rattle.exa_top.specs.Played.{PlaysFile};
+ghost use Rattle.exa_top.specs.Top.{Answered, AreConfigured, Began, EndsAtOnce, EndsLate, Finished};
+ghost use Rattle.exa_top.specs.Top.{GaveFrom, GaveLimit, HaveConfig, HaveFault, HaveScript, IsLeft};
 ghost use Rattle.exa_top.specs.Top.{IsLeftShort, IsOverrun};
-ghost use Rattle.exa_top.specs.Top.{NameFile, NamesFile, ReadInput, ReadPart, ReadToEnd, Refuses};
-ghost use Rattle.exa_top.specs.Top.{Wrote, input_limit};
+ghost use Rattle.exa_top.specs.Top.{NameFile, NamesFile, PlayScript, PlaysIts, PlaysScript};
+ghost use Rattle.exa_top.specs.Top.{ReadInput, ReadPart, ReadToEnd, Refuses, Wrote, input_limit};
 ghost use Rattle.exa_top.specs.Words.{IsCommand};
 ghost use Rattle.exa_top.specs.declared.words.TextCommand.{TextCommand as Spelled};
 ghost use Rattle.exa_top.specs.declared.words.TextCommand.TheVariants.{Encode, Check, Parse};
@@ -13,24 +15,24 @@ ghost use Rattle.outside.specs.Lent.{LendsNone};
 ghost use Rattle.outside.specs.Seen.{SourceSeen, source_seen, sink_seen};
 ghost use Rattle.outside.specs.Told.{CountsOne, Rose};
 
-use crate::configured::configured;
 use crate::decoding::decode;
 use crate::encoding::encode_all;
 use crate::parsing::parse_all;
-use crate::status::Status;
+use crate::playing::play_over;
 use crate::words::{TextCommand, text_command};
 use config_model::{MAX_HELPERS, MAX_PEERS, Slots};
 use config_reader::files_say_one;
 use outside::{Files, Sink, Source, Unread, read_all, write_all};
 use route_values::Side;
+use script_play::{Status, configured};
 use std::alloc::Global;
 use update_grammar::written_is_spelled;
 
 /// How many bytes of input are too many.
 pub const MAX_INPUT: usize = 1 << 40;
 
-// How many processes and neighbours a text command reads a configuration for.
-const TEXT_SLOTS: Slots = Slots {
+/// How many processes and neighbours a text command reads a configuration for.
+pub const TEXT_SLOTS: Slots = Slots {
     helpers: MAX_HELPERS,
     peers: MAX_PEERS,
 };
@@ -46,6 +48,8 @@ const HELP: &[u8] = b"usage: exabgpd encode LOCAL_AS PEER_AS LOCAL_IP\n\
 \x20          reads announce and withdraw lines, writes replies and UPDATE messages\n\
 \x20      exabgpd check CONFIG\n\
 \x20          reads a configuration file, writes ok or says what its first fault is\n\
+\x20      exabgpd play CONFIG\n\
+\x20          reads a script of events, writes what each is answered\n\
 \x20      exabgpd parse\n\
 \x20          reads command lines, writes for each whether it reads or where its first fault is\n\
 \x20      exabgpd decode CAP ..\n\
@@ -64,6 +68,9 @@ const HELP: &[u8] = b"usage: exabgpd encode LOCAL_AS PEER_AS LOCAL_IP\n\
 /// the lines say, each as a line `update 0 more HEX`; the last is the End-of-RIB marker, as `update 0 last HEX`.
 /// `check CONFIG` reads the file at this path as a configuration for 16 processes and 64 neighbours, and no input. It
 /// writes the line `ok`, or ends with `ConfigRefused` and the file's first fault.
+/// `play CONFIG` reads the file at this path as `check` does, and then its input to the end as a script of events. It
+/// opens the daemon's engine by the configuration, enters the event of each line, and writes what that is answered
+/// before it reads on. `ScriptRefused` says the first line that is in no production.
 /// `parse` reads its input to the end as command lines. It writes for each line, in order, one line: `ok`, its first
 /// fault as `error token PLACE`, `error many PLACE LIMIT` or `error long`, or `error memory`.
 /// `decode CAP ..` reads its input to the end as UPDATE messages in hexadecimal, one a line, of a session with these
@@ -100,6 +107,16 @@ pub fn exabgp_text<F: Files, S: Source, K: Sink>(
         (source_seen S.given S.left S.ended S.faults input.new)
         (sink_seen K.taken K.faults output.old) (sink_seen K.taken K.faults output.new) }
 
+    // What playing a script leaves.
+    ensures plays { (path : List ℕ) → map (λ w. w.now) words.now ≡ codes "play" ∷ path ∷ []
+        → PlaysFile (F.content files.old) path
+        (source_seen S.given S.left S.ended S.faults input.old)
+        (source_seen S.given S.left S.ended S.faults input.new)
+        (sink_seen K.taken K.faults output.old) (sink_seen K.taken K.faults output.new)
+        (F.faults files.old) (F.faults files.new) result }
+    ensures script { (line : ℕ) → result ≡ Status.ScriptRefused line
+        → PlayScript (map (λ w. w.now) words.now) }
+
     // What was opened is given back. Where the words name no file, none is opened.
     ensures content { F.content files.new ≡ F.content files.old }
     ensures back { LendsNone (F.lent files.old) (F.lent files.new) }
@@ -109,8 +126,12 @@ pub fn exabgp_text<F: Files, S: Source, K: Sink>(
     ensures refused { (fault : Fault) → result ≡ Status.ConfigRefused fault
         → Refuses (map (λ w. w.now) words.now) (F.content files.old) fault }
     ensures named { result ≡ Status.ConfigRead → NameFile (map (λ w. w.now) words.now) }
-    ensures write_late { result ≡ Status.WriteFault
+    ensures unread { result ≡ Status.ConfigRead
+        → (PlayScript (map (λ w. w.now) words.now) → ⊥)
+        → (input.new ≡ input.old) × (output.new ≡ output.old) }
+    ensures late { EndsLate result
         → AreConfigured (map (λ w. w.now) words.now) (F.content files.old) }
+    ensures crew { ¬ (result ≡ Status.NoCrew) }
 
     // A fault's status counts one fault, and any other leaves the count.
     ensures config { result ≡ Status.ConfigRead
@@ -139,10 +160,11 @@ pub fn exabgp_text<F: Files, S: Source, K: Sink>(
         → ¬ Rose (F.faults files.old) (F.faults files.new)
         → (result ≡ Status.ConfigRefused fault) ⊎ (result ≡ Status.NoMemory) }
 
-    // A command is run to its end where its file is a configuration, the input that it reads ends in time and no device
-    // fails, if memory suffices.
+    // A command is run to its end where its file is a configuration, the input that it reads ends in time, and is a
+    // script where it plays one, and no device fails, if memory suffices.
     ensures complete { (command : Spelled) → IsCommand (map (λ w. w.now) words.now) command
         → HaveConfig (map (λ w. w.now) words.now) (F.content files.old)
+        → HaveScript (map (λ w. w.now) words.now) (F.content files.old) (S.left input.old)
         → (ReadInput (map (λ w. w.now) words.now) → IsLeftShort input_limit (S.left input.old))
         → ¬ Rose (F.faults files.old) (F.faults files.new)
         → ¬ Rose (S.faults input.old) (S.faults input.new)
@@ -169,7 +191,14 @@ fn run<F: Files, S: Source, K: Sink>(
         (source_seen S.given S.left S.ended S.faults input.old)
         (source_seen S.given S.left S.ended S.faults input.new)
         (sink_seen K.taken K.faults output.old) (sink_seen K.taken K.faults output.new) result }
+    ensures plays { PlaysIts (F.content files.old) command.entry
+        (source_seen S.given S.left S.ended S.faults input.old)
+        (source_seen S.given S.left S.ended S.faults input.new)
+        (sink_seen K.taken K.faults output.old) (sink_seen K.taken K.faults output.new)
+        (F.faults files.old) (F.faults files.new) result }
     ensures at_once { EndsAtOnce result
+        → (input.new ≡ input.old) × (output.new ≡ output.old) }
+    ensures unread { result ≡ Status.ConfigRead → (PlaysScript command.entry → ⊥)
         → (input.new ≡ input.old) × (output.new ≡ output.old) }
     ensures content { F.content files.new ≡ F.content files.old }
     ensures back { LendsNone (F.lent files.old) (F.lent files.new) }
@@ -182,6 +211,7 @@ fn run<F: Files, S: Source, K: Sink>(
     match command {
         TextCommand::Encode(side) => encode(alloc, &side, input, output),
         TextCommand::Check(path) => check(alloc, path, files, output),
+        TextCommand::Play(path) => play_over(alloc, path, files, input, output),
         TextCommand::Parse => parse(alloc, input, output),
         TextCommand::Decode(caps) => decode(alloc, &caps, input, output),
         TextCommand::Help => write_text(output, HELP),
@@ -195,6 +225,7 @@ fn check<F: Files, K: Sink>(alloc: Global, path: &str, files: &mut F, output: &m
         source source (sink_seen K.taken K.faults output.old)
         (sink_seen K.taken K.faults output.new) result }
     ensures at_once { EndsAtOnce result → output.new ≡ output.old }
+    ensures unread { result ≡ Status.ConfigRead → output.new ≡ output.old }
     ensures content { F.content files.new ≡ F.content files.old }
     ensures back { LendsNone (F.lent files.old) (F.lent files.new) }
     ensures config { result ≡ Status.ConfigRead

@@ -16,6 +16,8 @@ pub enum TextCommand<'a> {
     Encode(Side),
     /// `check CONFIG`: the path of a file.
     Check(&'a str),
+    /// `play CONFIG`: the path of a file.
+    Play(&'a str),
     /// `parse`
     Parse,
     /// `decode CAP ..`: messages of a session with these capabilities.
@@ -38,6 +40,9 @@ pub fn text_command<'a>(words: &[&'a str]) -> Option<TextCommand<'a>>
     }
     if is(name.as_bytes(), b"check") {
         return check_of(operands);
+    }
+    if is(name.as_bytes(), b"play") {
+        return play_of(operands);
     }
     if is(name.as_bytes(), b"decode") {
         return decode_of(operands);
@@ -80,6 +85,19 @@ fn check_of<'a>(operands: &[&'a str]) -> Option<TextCommand<'a>>
         return None;
     }
     Some(TextCommand::Check(path))
+}
+
+fn play_of<'a>(operands: &[&'a str]) -> Option<TextCommand<'a>>
+    ensures found { IfSome result
+        (λ spelled. IsCommand (codes "play" ∷ map (λ w. w.now) operands.now) spelled) }
+    ensures none { IfNone result ((spelled : Spelled)
+        → IsCommand (codes "play" ∷ map (λ w. w.now) operands.now) spelled → ⊥) }
+{
+    let (path, others) = operands.split_first()?;
+    if !others.is_empty() {
+        return None;
+    }
+    Some(TextCommand::Play(path))
 }
 
 fn decode_of<'a>(operands: &[&'a str]) -> Option<TextCommand<'a>>

@@ -6,7 +6,7 @@ use Rattle.book_gate.specs.Calls.{IsLater}
 use Rattle.book_gate.specs.Histories.{entries, entries_by, signed}
 use Rattle.book_gate.specs.Known.{Known}
 use Rattle.book_gate.specs.declared.view.Signed.{Signed}
-use Rattle.pass_entries.specs.Making.{MakesMore, MakesNone, MakesOne, own}
+use Rattle.pass_entries.specs.Making.{MakesLearned, MakesMore, MakesNone, MakesOne, own}
 
 module _ {A E : Type 0} where
   -- a pass that is the same later is the same later still
@@ -38,6 +38,20 @@ module _ {A E : Type 0} where
             ∙ map-append (λ (made : Signed E). made.entry) (entries_by pass.name pass.seen)
             (signed pass.name entry ∷ []));
         joined = entered.joined;
+      }
+
+  pub makes_learned : (law : A → List E → E → Type 0) → MakesLearned law
+  makes_learned law pass later glimpse learned =
+      record {
+        same =
+            learned.becomes
+            ∙ ap (λ seen. record pass { seen = seen }) (sym (ap (λ (known : Known A E). known.seen) learned.becomes));
+        front = learned.own.front;
+        own =
+            ap (λ (name : List ℕ). entries (entries_by name later.seen))
+            (ap (λ (known : Known A E). known.name) learned.becomes)
+            ∙ (ap entries learned.own.mine ∙ sym (append-nil (own pass)));
+        joined = learned.own.joined;
       }
 
   pub makes_more : MakesMore A E

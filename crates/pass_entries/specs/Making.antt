@@ -1,9 +1,9 @@
 -- The entries that a pass makes.
 use Rattle.std.specs.Prelude.{ℕ, ◌≡◌, List, [], ◌∷◌, ◌++◌, Contains}
 use mathlib.Core.List.{IsPrefix}
-use Rattle.book_gate.specs.Calls.{Enters, IsLater}
+use Rattle.book_gate.specs.Calls.{Enters, IsLater, Learns}
 use Rattle.book_gate.specs.Histories.{entries, entries_by}
-use Rattle.book_gate.specs.Known.{Known}
+use Rattle.book_gate.specs.Known.{Glimpsed, Known}
 
 module _ {A E : Type 0} where
   -- the pass's own entries, in order
@@ -31,3 +31,8 @@ abbrev pub MakesMore : Type 0 → Type 0 → Type 0
 MakesMore A E =
     (pass between later : Known A E) (first second : List E) → Makes pass first between → Makes between second later
     → Makes pass (first ++ second) later
+
+-- what is learned makes no entry
+abbrev pub MakesLearned : {A E : Type 0} → (A → List E → E → Type 0) → Type 0
+MakesLearned {A = A} {E = E} law =
+    (pass later : Known A E) (glimpse : Glimpsed E) → Learns law pass glimpse later → Makes pass [] later

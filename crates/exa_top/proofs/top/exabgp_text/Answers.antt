@@ -1,4 +1,5 @@
 use Rattle.exa_top.proofs.CompleteLemmas.{completed, counts_rose, refuses_it}
+use Rattle.exa_top.proofs.PlayedLemmas.{play_spelled, plays_named, refused_plays}
 use Rattle.exa_top.proofs.top.exabgp_text.Goals as goal
 
 pub returns-in-Some-clause-refuses : goal.returns-in-Some-clause-refuses
@@ -8,8 +9,23 @@ returns-in-Some-clause-refuses g c fault command is faulty files =
     (λ unread. files (counts_rose _ _ (c.run.ensures.config unread)))
 
 pub returns-in-Some-clause-complete : goal.returns-in-Some-clause-complete
-returns-in-Some-clause-complete g c command is good short files input output =
+returns-in-Some-clause-complete g c command is good script short files input output =
     completed c.files_say_one.ensures.apart _ c.in-Some.command _ _ _ _ c.run.result c.run.ensures.answered
-    (good c.in-Some.command c.in-Some.ensures.found)
+    (good c.in-Some.command c.in-Some.ensures.found) (script c.in-Some.command c.in-Some.ensures.found)
     (λ reads. short (c.in-Some.command, c.in-Some.ensures.found, reads))
     (λ unread. files (counts_rose _ _ (c.run.ensures.config unread))) input output
+
+pub returns-in-Some-clause-plays : goal.returns-in-Some-clause-plays
+returns-in-Some-clause-plays g c path named =
+    plays_named _ _ c.in-Some.command path _ _ _ _ _ _ c.run.result c.in-Some.ensures.found named c.run.ensures.plays
+
+pub returns-in-Some-clause-script : goal.returns-in-Some-clause-script
+returns-in-Some-clause-script g c line is = (
+  c.in-Some.command,
+  c.in-Some.ensures.found,
+  refused_plays _ c.in-Some.command _ (c.run.ensures.answered.bad line is),
+)
+
+pub returns-in-None-clause-plays : goal.returns-in-None-clause-plays
+returns-in-None-clause-plays g c path named =
+    let spelled = play_spelled c.args.words.now path named in absurd (c.in-None.ensures.none spelled.0 spelled.1)

@@ -2,6 +2,7 @@ use Rattle.std.proofs.Common.{refl}
 use Rattle.exa_top.specs.declared.words.TextCommand.TheVariants.{Encode, Parse, Decode, Help, Version}
 use Rattle.exa_top.proofs.AnsweredLemmas.{read_none, text_written}
 use Rattle.exa_top.proofs.CheckedLemmas.{ends_later}
+use Rattle.exa_top.proofs.PlayedLemmas.{played_answered}
 use Rattle.exa_top.proofs.top.run.Goals as goal
 
 pub returns-in-Encode-clause-answered : goal.returns-in-Encode-clause-answered
@@ -12,12 +13,23 @@ returns-in-Encode-clause-at_once g c at_once =
     absurd (ends_later (g.F.Files.content c.args.files.now) (Encode c.in-Encode.side) _ _ _ _ _ (c.encode.ensures _)
     (λ names. names) at_once)
 
+pub returns-in-Encode-clause-unread : goal.returns-in-Encode-clause-unread
+returns-in-Encode-clause-unread g c is =
+    absurd ((c.encode.ensures (g.F.Files.content c.args.files.now)).unread is)
+
 pub returns-in-Encode-clause-config : goal.returns-in-Encode-clause-config
 returns-in-Encode-clause-config g c is =
     absurd ((c.encode.ensures (g.F.Files.content c.args.files.now)).unread is)
 
 pub returns-in-Check-clause-answered : goal.returns-in-Check-clause-answered
 returns-in-Check-clause-answered g c = rw c.in-Check.is (c.check.ensures.answered _)
+
+pub returns-in-Play-clause-answered : goal.returns-in-Play-clause-answered
+returns-in-Play-clause-answered g c =
+    rw c.in-Play.is (played_answered _ c.in-Play.path _ _ _ _ _ _ _ c.play_over.ensures.plays)
+
+pub returns-in-Play-clause-plays : goal.returns-in-Play-clause-plays
+returns-in-Play-clause-plays g c = rw c.in-Play.is c.play_over.ensures.plays
 
 pub returns-in-Parse-clause-answered : goal.returns-in-Parse-clause-answered
 returns-in-Parse-clause-answered g c = rw c.in-Parse.is (c.parse.ensures _)
@@ -26,6 +38,10 @@ pub returns-in-Parse-clause-at_once : goal.returns-in-Parse-clause-at_once
 returns-in-Parse-clause-at_once g c at_once =
     absurd (ends_later (g.F.Files.content c.args.files.now) Parse _ _ _ _ _ (c.parse.ensures _) (λ names. names)
     at_once)
+
+pub returns-in-Parse-clause-unread : goal.returns-in-Parse-clause-unread
+returns-in-Parse-clause-unread g c is =
+    absurd ((c.parse.ensures (g.F.Files.content c.args.files.now)).unread is)
 
 pub returns-in-Parse-clause-config : goal.returns-in-Parse-clause-config
 returns-in-Parse-clause-config g c is =
@@ -38,6 +54,10 @@ pub returns-in-Decode-clause-at_once : goal.returns-in-Decode-clause-at_once
 returns-in-Decode-clause-at_once g c at_once =
     absurd (ends_later (g.F.Files.content c.args.files.now) (Decode c.in-Decode.caps) _ _ _ _ _ (c.decode.ensures _)
     (λ names. names) at_once)
+
+pub returns-in-Decode-clause-unread : goal.returns-in-Decode-clause-unread
+returns-in-Decode-clause-unread g c is =
+    absurd ((c.decode.ensures (g.F.Files.content c.args.files.now)).unread is)
 
 pub returns-in-Decode-clause-config : goal.returns-in-Decode-clause-config
 returns-in-Decode-clause-config g c is =

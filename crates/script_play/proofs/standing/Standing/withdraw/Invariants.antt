@@ -1,0 +1,10 @@
+use Rattle.std.proofs.Common.{◌++◌, List, take}
+use Rattle.update_grammar.specs.declared.effect.Effect.{Effect}
+use Rattle.update_grammar.specs.Update.{gone_all}
+use Rattle.script_play.specs.Standing.{AreLeftAt}
+use Rattle.script_play.proofs.standing.Standing.withdraw.Given as goal
+
+-- the keys so far stand no longer
+abbrev pub invariant-keys : goal.invariant-keys
+invariant-keys l = (before : List Effect) → AreLeftAt before l.fn.self
+    → AreLeftAt (before ++ gone_all (take l.key-index l.keys)) l.self

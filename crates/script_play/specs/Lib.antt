@@ -1,0 +1,13 @@
+pub mod Status
+pub mod Writing
+pub mod Player
+pub mod Entering
+pub mod Draining
+pub mod Reloading
+pub mod Streams
+pub mod Encoding
+pub mod Standing
+pub mod Loads
+pub mod Loading
+pub mod Counting
+pub mod LoadLaws
