@@ -16,3 +16,4 @@ pub mod LineLemmas
 pub mod PieceLemmas
 pub mod StreamLemmas
 pub mod EnterLemmas
+pub mod PlainLemmas

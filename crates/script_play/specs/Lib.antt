@@ -6,3 +6,4 @@ pub mod Draining
 pub mod Reloading
 pub mod Streams
 pub mod Encoding
+pub mod Plain

@@ -17,6 +17,7 @@ mod halt;
 mod hashing;
 mod helpers;
 mod neighbors;
+mod plain;
 mod player;
 mod playing;
 mod status;
@@ -24,6 +25,7 @@ mod writing;
 
 pub use config_file::configured;
 pub use encoding::encode;
+pub use plain::plain_config;
 pub use playing::play;
 pub use status::{STATUS_ROOM, Status};
 

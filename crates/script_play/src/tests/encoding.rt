@@ -1,6 +1,6 @@
 //! A helper's lines, and the messages that they leave.
 use super::*;
-use crate::encode;
+use crate::{encode, plain_config};
 
 // A neighbour of another AS that carries IPv4 alone.
 const IPV4: &str = "process h { run h; }
@@ -54,7 +54,10 @@ struct Outcome {
 
 // Encodes lines over the configuration of a file.
 fn run(alloc: Global, file: &str, input: &str, calls: Calls<'_>) -> Result<Outcome, Fail> {
-    let config = read(alloc, file)?;
+    run_over(alloc, read(alloc, file)?, input, calls)
+}
+
+fn run_over(alloc: Global, config: Config, input: &str, calls: Calls<'_>) -> Result<Outcome, Fail> {
     let step = calls.step.max(1);
     let mut source = MemorySource::in_steps(input.as_bytes(), step, calls.reads);
     let mut sink = MemorySink::in_steps(alloc, ROOM, step, calls.writes)?;
@@ -296,5 +299,27 @@ fn a_fault_of_the_outside_ends_the_command(rt: HostRuntime) -> Result<(), Fail> 
         "done\ndone\nupdate 0 more FFFFFF"
     );
     assert_eq!(rt; unwritten.writes_failed, 1);
+    Ok(())
+}
+
+#[test]
+fn without_a_file_there_is_one_neighbour_that_carries_ipv4(rt: HostRuntime) -> Result<(), Fail> {
+    let table = [
+        (
+            65_002,
+            "update 0 more M002F02000000144001010040020602010000FDE9400304C0000201180A0000\n",
+        ),
+        (
+            65_001,
+            "update 0 more M0030020000001540010100400200400304C000020140050400000064180A0000\n",
+        ),
+    ];
+    for (peer_as, message) in table {
+        let config = plain_config(rt.alloc(), 65_001, peer_as, 0xC000_0209)?;
+        let wanted = joined(rt.alloc(), &["done\n", message, END])?;
+        let done = run_over(rt.alloc(), config, ROUTE, ALL_WELL)?;
+        assert_eq!(rt; done.status, Status::Ok, "{peer_as}");
+        assert_eq!(rt; done.output.as_str(), wanted.as_str(), "{peer_as}");
+    }
     Ok(())
 }
