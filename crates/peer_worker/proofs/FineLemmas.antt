@@ -1,6 +1,6 @@
 -- Each event may come wherever the session may be.
-use Rattle.std.proofs.Common.{ℕ, ◌≡◌, Bool, true, false, true≢false, List, [], ◌∷◌, ◌++◌, refl, ap, sym, subst, ◌∙◌}
-use Rattle.std.proofs.Common.{Option, Some, None, Ok, Err, ap₂, arith}
+use Rattle.std.proofs.Common.{ℕ, ◌≡◌, Bool, true, false, true≢false, [], ◌∷◌, refl, sym, subst}
+use Rattle.std.proofs.Common.{Some, None, Ok, Err, ap₂, arith}
 use Rattle.std.specs.Prelude.{◌==◌, ◌&&◌, if◌then◌else◌}
 use Rattle.std.proofs.lemmas.Bool.Decides.{nat_tests}
 use Rattle.route_values.specs.declared.addr.Family.{Family}
@@ -8,17 +8,16 @@ use Rattle.route_values.specs.declared.settings.Settings.{Settings}
 use Rattle.route_values.specs.Visible.{has_family}
 use Rattle.frame_cutter.specs.Refusals.{refused}
 use Rattle.session_codec.specs.declared.negotiation.Agreed.{Agreed}
-use Rattle.session_machine.specs.declared.action.Action.{Action}
 use Rattle.session_machine.specs.declared.action.Action.TheVariants as act
 use Rattle.session_machine.specs.declared.event.Event.{Event}
 use Rattle.session_machine.specs.declared.event.Event.TheVariants as ev
 use Rattle.session_machine.specs.declared.state.State.{State}
 use Rattle.session_machine.specs.declared.state.State.TheVariants as st
-use Rattle.session_machine.specs.Table.{Step, step_to, sent_anew, table}
-use Rattle.peer_worker.specs.Goings.{Fine, FineIf, Fits, IsPlace, act_place, is_end, is_idle, places}
+use Rattle.session_machine.specs.Table.{step_to}
+use Rattle.peer_worker.specs.Goings.{Fine, FineIf, Fits, act_place, is_end, is_idle, places}
 use Rattle.peer_worker.specs.Hearing.{IsOther}
-use Rattle.peer_worker.specs.Places.{Place, step}
-use Rattle.peer_worker.specs.Places.Place.{Start, Opened, Confirmed, Raised, Live, Faulted, Parting, Over, Wrong}
+use Rattle.peer_worker.specs.Places.{Place}
+use Rattle.peer_worker.specs.Places.Place.{Start, Opened, Confirmed, Live, Faulted, Parting, Over, Wrong}
 
 pub connected_fine : (own : Settings) (place : Place) → place ≡ Start → Fine own st.Idle ev.Connected place
 connected_fine own place is = subst (λ (at : Place). Fine own st.Idle ev.Connected at) (sym is) refl

@@ -1,17 +1,16 @@
 -- What stands whole in front of a stream is a message of one of the five types.
 use Rattle.std.proofs.Common.{ℕ, zero, suc, ◌≡◌, ◌+◌, ◌-◌, ◌≤◌, min, Bool, true, false, true≢false, List}
 use Rattle.std.proofs.Common.{length, take, drop}
-use Rattle.std.proofs.Common.{refl, ap, sym, subst, ◌∙◌, arith, length-drop}
+use Rattle.std.proofs.Common.{refl, ap, sym, ◌∙◌, arith, length-drop}
 use Rattle.std.proofs.lemmas.List.{take_rest}
 use Rattle.outside.specs.declared.link.Recv.{Recv}
 use Rattle.outside.specs.declared.link.Recv.TheVariants.{Got, End, Quiet, Failed}
 use Rattle.outside.specs.Receiving.{Receives, RecvCounts}
-use Rattle.std.specs.Prelude.{◌==◌, if◌then◌else◌, IsTrue, Option, Some, None, nat_le, ◌&&◌}
+use Rattle.std.specs.Prelude.{◌==◌, if◌then◌else◌, IsTrue, Option, Some, None}
 use Rattle.std.proofs.lemmas.Bool.Decides.{nat_tests}
-use Rattle.frame_cutter.specs.declared.kinds.Lengths.{Lengths}
-use Rattle.frame_cutter.specs.Front.{Frame, has_length, is_sized}
+use Rattle.frame_cutter.specs.Front.{has_length, is_sized}
 use Rattle.frame_cutter.specs.Frames.{greatest}
-use Rattle.frame_cutter.specs.Header.{is_within, lengths_of, range}
+use Rattle.frame_cutter.specs.Header.{is_within, range}
 use Rattle.peer_worker.specs.Hearing.{IsMessage, IsWithin}
 
 within : (least most len : ℕ) → IsTrue (is_within (range least most) len) → (least ≤ len) × (len ≤ most)

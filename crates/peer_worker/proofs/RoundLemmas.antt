@@ -1,7 +1,7 @@
 -- One round more of a talker.
 use Rattle.std.proofs.Common.{ℕ, ◌≡◌, ◌+◌, Bool, true, false, List, [], ◌∷◌, ◌++◌, map, refl, ap, sym, subst, ◌∙◌}
 use Rattle.std.proofs.Common.{append-nil, append_assoc, arith}
-use Rattle.std.specs.List.{All, flat_map}
+use Rattle.std.specs.List.{flat_map}
 use Rattle.std.proofs.lemmas.List.{map-append}
 use Rattle.std.proofs.lemmas.List.Concat.{flat_map-append}
 use Rattle.std.proofs.lemmas.List.Elements.{All-append, All-cons, All-nil}
@@ -21,8 +21,8 @@ use Rattle.book_history.specs.declared.outcomes.Peer.TheVariants as peer
 use Rattle.pass_entries.specs.Making.{Makes}
 use Rattle.pass_entries.proofs.MakingLemmas.{makes_more, makes_none, makes_one}
 use Rattle.peer_worker.specs.Deeds.{Deed, all_entered, all_said}
-use Rattle.peer_worker.specs.Goings.{Fits, Goes, IsPlace, is_end}
-use Rattle.peer_worker.specs.Places.{start, walk}
+use Rattle.peer_worker.specs.Goings.{Fits, Goes, IsPlace}
+use Rattle.peer_worker.specs.Places.{start}
 use Rattle.peer_worker.specs.Rounds.{AddsAll, AddsCount, IsGood, IsSent, IsVisit, Round, Visit, Missed, Idle, Talks}
 use Rattle.peer_worker.specs.Rounds.{Tells, Tie, Told, Visits, asked_of, entries_of, failures, links_of, stopping}
 use Rattle.peer_worker.specs.Wires.{Left, Wire}

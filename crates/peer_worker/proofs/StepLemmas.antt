@@ -1,7 +1,6 @@
 -- One step more of each call of a session.
-use Rattle.std.proofs.Common.{ℕ, ◌≡◌, Bool, true, false, true≢false, List, [], ◌∷◌, ◌++◌, Option, Some, None}
+use Rattle.std.proofs.Common.{ℕ, ◌≡◌, Bool, true, List, [], ◌∷◌, ◌++◌, Option, Some, None}
 use Rattle.std.proofs.Common.{refl, ap, ap₂, sym, subst, ◌∙◌}
-use Rattle.route_values.specs.declared.addr.Family.{Family}
 use Rattle.route_values.specs.declared.settings.Settings.{Settings}
 use Rattle.route_values.specs.Caps.{Caps}
 use Rattle.frame_cutter.specs.Refusals.{refused}
@@ -19,18 +18,18 @@ use Rattle.book_history.specs.declared.outcomes.Cut.TheVariants as cut
 use Rattle.book_history.specs.declared.outcomes.Up.{Up}
 use Rattle.book_history.specs.declared.outcomes.Up.TheVariants as up
 use Rattle.book_history.specs.Entries.{Entry}
-use Rattle.book_history.specs.Entries.Entry.{CameUp, RefreshAsked}
+use Rattle.book_history.specs.Entries.Entry.{CameUp}
 use Rattle.book_gate.specs.Calls.{Enters}
 use Rattle.book_gate.specs.Known.{Known}
 use Rattle.peer_worker.specs.declared.cause.Cause.{Cause}
-use Rattle.peer_worker.specs.Deeds.{Deed, Note, Say, Rise, Fall, Renew, Carve}
+use Rattle.peer_worker.specs.Deeds.{Deed, Note, Say, Rise, Carve}
 use Rattle.peer_worker.specs.Goings.{Acts, CanCut, Carries, CutsOnce, Does, Fine, FineIf, Fits, Goes, IsEstablished}
 use Rattle.peer_worker.specs.Goings.{IsPlace, Leads, act_place, comes_up, is_end, is_idle, places}
 use Rattle.peer_worker.specs.Hearing.{IsOther}
 use Rattle.peer_worker.specs.Places.{Place, after_cause, after_cut, after_up, step, walk}
 use Rattle.peer_worker.specs.Places.Place.{Start, Opened, Confirmed, Raised, Live, Faulted, Parting, Over, Wrong}
 use Rattle.peer_worker.specs.Wires.{Gathered, Moves, Wire}
-use Rattle.peer_worker.proofs.ActLemmas.{acts_fall, acts_more, acts_none, acts_renew, acts_rise, acts_said, walk_more}
+use Rattle.peer_worker.proofs.ActLemmas.{acts_more, acts_none, acts_rise, acts_said, walk_more}
 use Rattle.peer_worker.proofs.FineLemmas.{connected_fine, finish_place, idle_fits, other_fine}
 
 places_more : (place : Place) (todo more : List Action) → places place (todo ++ more) ≡ places (places place todo) more

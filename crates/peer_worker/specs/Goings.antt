@@ -5,7 +5,6 @@ use Rattle.session_codec.specs.declared.negotiation.Agreed.{Agreed}
 use Rattle.session_machine.specs.declared.action.Action.{Action}
 use Rattle.session_machine.specs.declared.action.Action.TheVariants as act
 use Rattle.session_machine.specs.declared.event.Event.{Event}
-use Rattle.session_machine.specs.declared.event.Event.TheVariants as ev
 use Rattle.session_machine.specs.declared.state.State.{State}
 use Rattle.session_machine.specs.declared.state.State.TheVariants as st
 use Rattle.session_machine.specs.Table.{Step, table}

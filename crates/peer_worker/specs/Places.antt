@@ -6,7 +6,7 @@ use Rattle.book_history.specs.declared.outcomes.Cut.TheVariants as cut
 use Rattle.book_history.specs.declared.outcomes.Up.{Up}
 use Rattle.book_history.specs.declared.outcomes.Up.TheVariants as up
 use Rattle.peer_worker.specs.declared.cause.Cause.{Cause}
-use Rattle.peer_worker.specs.Deeds.{Note, OpenSaid, KeepaliveSaid, RefusalSaid, Deed, Say, Rise, Fall, Renew, Carve}
+use Rattle.peer_worker.specs.Deeds.{OpenSaid, KeepaliveSaid, RefusalSaid, Deed, Say, Rise, Fall, Renew, Carve}
 
 -- Nothing was said; the OPEN was; a KEEPALIVE was behind it; the session is up, and nothing was cut yet; it stands; it
 -- is to end with a code and subcode; the neighbour was told so; it is over; or a deed came out of order.

@@ -1,4 +1,5 @@
 //! The timers of a session.
+ghost use Rattle.std.specs.Prelude.{◌≡◌, ◌+◌, ◌*◌, ◌<◌, ◌≤◌, IsTrue};
 
 /// When a session was heard and kept alive last, in milliseconds, and how often its link was quiet since.
 #[derive(Clone, Copy, Debug)]
@@ -21,7 +22,10 @@ pub enum Due {
 
 impl Timers {
     /// Of a session that begins at this moment.
-    pub fn new(now: u64) -> Timers {
+    pub fn new(now: u64) -> Timers
+        ensures heard { result.heard ≡ now }
+        ensures quiets { result.quiets ≡ 0 }
+    {
         Timers {
             heard: now,
             kept: now,
@@ -30,13 +34,19 @@ impl Timers {
     }
 
     /// A message came.
-    pub fn hear(&mut self, now: u64) {
+    pub fn hear(&mut self, now: u64)
+        ensures heard { self.new.heard ≡ now }
+        ensures quiets { self.new.quiets ≡ 0 }
+    {
         self.heard = now;
         self.quiets = 0;
     }
 
     /// Nothing came.
-    pub fn rest(&mut self) {
+    pub fn rest(&mut self)
+        ensures heard { self.new.heard ≡ self.old.heard }
+        ensures quiets { self.new.quiets ≤ self.old.quiets + 1 }
+    {
         self.quiets = self.quiets.saturating_add(1);
     }
 
@@ -65,7 +75,10 @@ impl Timers {
 
     /// Whether no message came for as long as the hold time of so many seconds, where 0 says that there is none
     /// (RFC 4271, section 4.2). The link must have been quiet once a second besides.
-    pub fn is_over(&self, hold: u16, now: u64) -> bool {
+    pub fn is_over(&self, hold: u16, now: u64) -> bool
+        ensures time { IsTrue result → self.now.heard + hold * 1000 ≤ now }
+        ensures quiets { IsTrue result → (0 < hold) × (hold ≤ self.now.quiets) }
+    {
         let hold = u64::from(hold);
         hold > 0 && hold <= self.quiets && hold * 1_000 <= now.saturating_sub(self.heard)
     }

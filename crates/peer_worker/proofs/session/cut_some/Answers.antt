@@ -1,5 +1,4 @@
-use Rattle.std.proofs.Common.{◌∙◌}
-use Rattle.peer_worker.proofs.StepLemmas.{carve_first, carve_more, gate_stays}
+use Rattle.peer_worker.proofs.StepLemmas.{carve_first, carve_more}
 use Rattle.peer_worker.proofs.session.cut_some.Goals as goal
 
 pub loop-init : goal.loop-init

@@ -1,4 +1,4 @@
-use Rattle.std.proofs.Common.{arith, length-drop, take, drop, append-nil, ◌∙◌, refl}
+use Rattle.std.proofs.Common.{arith, length-drop, take, drop, append-nil, ◌∙◌}
 use Rattle.std.proofs.lemmas.List.{take_rest, take-append-drop}
 use Rattle.std.proofs.Math.Seq.{take-add}
 use Rattle.outside.proofs.ToldLemmas.{grows_more}
