@@ -1,7 +1,7 @@
 -- One round more of a talker.
 use Rattle.std.proofs.Common.{ℕ, ◌≡◌, ◌+◌, Bool, true, false, List, [], ◌∷◌, ◌++◌, map, refl, ap, sym, subst, ◌∙◌}
 use Rattle.std.proofs.Common.{append-nil, append_assoc, arith}
-use Rattle.std.specs.List.{flat_map}
+use Rattle.std.specs.List.{All, flat_map}
 use Rattle.std.proofs.lemmas.List.{map-append}
 use Rattle.std.proofs.lemmas.List.Concat.{flat_map-append}
 use Rattle.std.proofs.lemmas.List.Elements.{All-append, All-cons, All-nil}
@@ -16,15 +16,15 @@ use Rattle.session_machine.specs.declared.state.State.TheVariants as st
 use Rattle.book_gate.specs.Calls.{Enters}
 use Rattle.book_gate.specs.Known.{Known}
 use Rattle.book_history.specs.Entries.{Entry}
-use Rattle.book_history.specs.Entries.Entry.{PeerAsked}
+use Rattle.book_history.specs.Entries.Entry.{PeerAsked, CameUp, WentDown, RefreshAsked, MessageCut}
 use Rattle.book_history.specs.declared.outcomes.Peer.TheVariants as peer
 use Rattle.pass_entries.specs.Making.{Makes}
 use Rattle.pass_entries.proofs.MakingLemmas.{makes_more, makes_none, makes_one}
-use Rattle.peer_worker.specs.Deeds.{Deed, all_entered, all_said}
+use Rattle.peer_worker.specs.Deeds.{Deed, Say, Rise, Fall, Renew, Carve, all_entered, all_said}
 use Rattle.peer_worker.specs.Goings.{Fits, Goes, IsPlace}
 use Rattle.peer_worker.specs.Places.{start}
-use Rattle.peer_worker.specs.Rounds.{AddsAll, AddsCount, IsGood, IsSent, IsVisit, Round, Visit, Missed, Idle, Talks}
-use Rattle.peer_worker.specs.Rounds.{Tells, Tie, Told, Visits, asked_of, entries_of, failures, links_of, stopping}
+use Rattle.peer_worker.specs.Rounds.{AddsAll, AddsCount, IsGood, IsOwn, IsSent, IsVisit, Round, Visit, Missed, Idle}
+use Rattle.peer_worker.specs.Rounds.{Talks, Tells, Tie, Told, Visits, asked_of, entries_of, failures, links_of, stopping}
 use Rattle.peer_worker.specs.Wires.{Left, Wire}
 use Rattle.peer_worker.proofs.StreamLemmas.{stream_of}
 
@@ -98,6 +98,30 @@ tells_more s t u rounds more one other =
 tells_idle : (s : Told) → Tells s (Idle ∷ []) s
 tells_idle s = record { links = adds_none s.links; asked = adds_none s.asked; failed = count_none s.failed }
 
+-- all entries are of the slot
+deeds_own : (n : ℕ) (own : Settings) (deeds : List Deed) → All (IsOwn n) (all_entered n own deeds)
+deeds_own n own [] = All-nil (IsOwn n)
+deeds_own n own (Say note ∷ deeds) = deeds_own n own deeds
+deeds_own n own (Rise caps given ∷ deeds) =
+    All-cons (IsOwn n) (CameUp n own caps given) (all_entered n own deeds) refl (deeds_own n own deeds)
+deeds_own n own (Fall ∷ deeds) =
+    All-cons (IsOwn n) (WentDown n) (all_entered n own deeds) refl (deeds_own n own deeds)
+deeds_own n own (Renew family ∷ deeds) =
+    All-cons (IsOwn n) (RefreshAsked n family) (all_entered n own deeds) refl (deeds_own n own deeds)
+deeds_own n own (Carve bytes given ∷ deeds) =
+    All-cons (IsOwn n) (MessageCut n bytes given) (all_entered n own deeds) refl (deeds_own n own deeds)
+
+rounds_own : (n : ℕ) (rounds : List Round) → All (IsOwn n) (flat_map (entries_of n) rounds)
+rounds_own n [] = All-nil (IsOwn n)
+rounds_own n (Visit own deeds tie ∷ rounds) =
+    All-cons (IsOwn n) (PeerAsked n (peer.Is own)) (all_entered n own deeds ++ flat_map (entries_of n) rounds) refl
+    (All-append (IsOwn n) (all_entered n own deeds) (flat_map (entries_of n) rounds) (deeds_own n own deeds)
+    (rounds_own n rounds))
+rounds_own n (Missed own ∷ rounds) =
+    All-cons (IsOwn n) (PeerAsked n (peer.Is own)) (flat_map (entries_of n) rounds) refl (rounds_own n rounds)
+rounds_own n (Idle ∷ rounds) =
+    All-cons (IsOwn n) (PeerAsked n peer.Absent) (flat_map (entries_of n) rounds) refl (rounds_own n rounds)
+
 -- what was said on a new link, of which nothing is left to be sent
 sent_if : (broken : Bool) (bytes sent : List ℕ) (faults : ℕ) → Left false broken [] bytes sent [] faults
     → IsSent bytes (Some sent) faults
@@ -158,7 +182,13 @@ module _ {A : Type 0} (n : ℕ) where
 
   pub talks_none : (pass : Known A Entry) (s : Told) → Talks n pass s [] pass s
   talks_none pass s =
-      record { rounds = []; makes = makes_none pass; tells = tells_none s; good = All-nil (IsGood n) }
+      record {
+        rounds = [];
+        makes = makes_none pass;
+        tells = tells_none s;
+        good = All-nil (IsGood n);
+        only = rounds_own n [];
+      }
 
   talks_round : (pass between later : Known A Entry) (s t u : Told) (round : Round) → Talks n pass s [] between t
       → Makes between (entries_of n round) later → Tells t (round ∷ []) u → IsGood n round → Talks n pass s [] later u
@@ -179,6 +209,7 @@ module _ {A : Type 0} (n : ℕ) where
         good =
             All-append (IsGood n) talks.rounds (round ∷ []) talks.good
             (All-cons (IsGood n) round [] good (All-nil (IsGood n)));
+        only = rounds_own n (talks.rounds ++ round ∷ []);
       }
 
   pub talks_visit : (law : A → List Entry → Entry → Type 0) (pass between asked later : Known A Entry) (s t u : Told)
@@ -210,6 +241,7 @@ module _ {A : Type 0} (n : ℕ) where
             (makes_one law between later (stopping n) entered);
         tells = talks.tells;
         good = talks.good;
+        only = talks.only;
       }
 
   pub visit_missed : (own : Settings) (pass : Known A Entry) (s t : Told) → Gathers s.asked t.asked (Some own)

@@ -9,7 +9,7 @@ use Rattle.outside.specs.Dialling.{AreSettings}
 use Rattle.outside.specs.Ended.{EndedLink, link_of}
 use Rattle.book_gate.specs.Known.{Known}
 use Rattle.book_history.specs.Entries.{Entry}
-use Rattle.book_history.specs.Entries.Entry.{PeerAsked}
+use Rattle.book_history.specs.Entries.Entry.{PeerAsked, CameUp, WentDown, RefreshAsked, MessageCut}
 use Rattle.book_history.specs.declared.outcomes.Peer.TheVariants as peer
 use Rattle.pass_entries.specs.Making.{Makes}
 use Rattle.peer_worker.specs.Deeds.{Deed, all_entered, all_said}
@@ -36,6 +36,15 @@ abbrev pub entries_of : ℕ → Round → List Entry
 entries_of n (Visit own deeds tie) = PeerAsked n (peer.Is own) ∷ all_entered n own deeds
 entries_of n (Missed own) = PeerAsked n (peer.Is own) ∷ []
 entries_of n Idle = PeerAsked n peer.Absent ∷ []
+
+-- an entry of a neighbour slot: it was asked for, its session came up or went down, or was refreshed or cut for
+abbrev pub IsOwn : ℕ → Entry → Type 0
+IsOwn n (PeerAsked m given) = m ≡ n
+IsOwn n (CameUp m own caps given) = m ≡ n
+IsOwn n (WentDown m) = m ≡ n
+IsOwn n (RefreshAsked m family) = m ≡ n
+IsOwn n (MessageCut m bytes given) = m ≡ n
+IsOwn n entry = ⊥
 
 -- the links that were given back
 abbrev pub links_of : Round → List (Option EndedLink)
@@ -108,13 +117,14 @@ abbrev pub stopping : ℕ → Entry
 stopping n = PeerAsked n peer.Stopping
 
 module _ {A : Type 0} where
-  -- a pass made the entries of rounds, and last these; and what the dialer tells is that of the rounds
+  -- a pass made the entries of rounds, all of its slot, and last these; and what the dialer tells is that of the rounds
   pub record Talks (n : ℕ) (pass : Known A Entry) (s : Told) (last : List Entry) (later : Known A Entry) (t : Told)
       : Type 0 where
     pub rounds : List Round
     pub makes : Makes pass (flat_map (entries_of n) rounds ++ last) later
     pub tells : Tells s rounds t
     pub good : All (IsGood n) rounds
+    pub only : All (IsOwn n) (flat_map (entries_of n) rounds)
 
   -- one round, behind its first entry
   pub record Visits (n : ℕ) (own : Settings) (pass : Known A Entry) (s : Told) (later : Known A Entry) (t : Told)
