@@ -24,7 +24,8 @@ use Rattle.peer_worker.specs.Deeds.{Deed, Say, Rise, Fall, Renew, Carve, all_ent
 use Rattle.peer_worker.specs.Goings.{Fits, Goes, IsPlace}
 use Rattle.peer_worker.specs.Places.{start}
 use Rattle.peer_worker.specs.Rounds.{AddsAll, AddsCount, IsGood, IsOwn, IsSent, IsVisit, Round, Visit, Missed, Idle}
-use Rattle.peer_worker.specs.Rounds.{Talks, Tells, Tie, Told, Visits, asked_of, entries_of, failures, links_of, stopping}
+use Rattle.peer_worker.specs.Rounds.{Talks, Tells, Tie, Told, Visits, asked_of, entries_of, failures, links_of}
+use Rattle.peer_worker.specs.Rounds.{stopping}
 use Rattle.peer_worker.specs.Wires.{Left, Wire}
 use Rattle.peer_worker.proofs.StreamLemmas.{stream_of}
 
