@@ -1,6 +1,6 @@
 -- One helper of a reader.
 use Rattle.std.proofs.Common.{ℕ, ◌≡◌, Bool, true, false, true≢false, List, [], ◌∷◌, ◌++◌, Option, Some, None, IfSome}
-use Rattle.std.proofs.Common.{map, inl, inr, arith, ◌+◌, ap, sym, subst, ◌∙◌, append_assoc, append-nil}
+use Rattle.std.proofs.Common.{map, arith, ◌+◌, ap, sym, subst, ◌∙◌, append_assoc, append-nil}
 use Rattle.std.proofs.lemmas.List.{map-append}
 use mathlib.Core.List.{IsPrefix}
 use Rattle.outside.specs.Ended.{EndedChild, Gathers, child_of}
@@ -8,20 +8,16 @@ use Rattle.outside.specs.Lent.{GoesBy}
 use Rattle.outside.specs.Told.{GaveNothing, Grows}
 use Rattle.book_history.specs.Entries.{Entry}
 use Rattle.book_history.specs.Entries.Entry.{HelperGone}
-use Rattle.book_gate.specs.Calls.{Enters, Learns}
-use Rattle.book_gate.specs.Known.{Glimpsed, Known}
+use Rattle.book_gate.specs.Calls.{Enters}
+use Rattle.book_gate.specs.Known.{Known}
 use Rattle.book_gate.specs.declared.view.Signed.{Signed}
 use Rattle.pass_entries.specs.Making.{Makes}
-use Rattle.pass_entries.proofs.MakingLemmas.{makes_more, makes_none, makes_one}
-use Rattle.helper_worker.specs.Handing.{HasStop, IsAnswered, TookNothing}
+use Rattle.pass_entries.proofs.MakingLemmas.{makes_more, makes_one}
+use Rattle.helper_worker.specs.Handing.{HasStop}
 use Rattle.helper_worker.specs.Hearing.{Hears}
 use Rattle.helper_worker.specs.Rounds.{Attends, Ends, GathersAll, HearsOut, IsSinkBack, Outcome, Visits, ends_of, told}
 use Rattle.helper_worker.specs.Rounds.Outcome.{Heard, Failed}
 use Rattle.helper_worker.proofs.HandingLemmas.{stop_stays}
-
-pub took_nothing : (taken : Option (List ℕ)) → GaveNothing taken → TookNothing taken
-took_nothing None none part is = absurd (cc (is))
-took_nothing (Some bytes) none part is = subst (λ (took : List ℕ). took ≡ []) (cc (is)) none
 
 grows_new : (given given' : Option (List ℕ)) (bytes : List ℕ) → GaveNothing given → Grows given given' bytes
     → Grows (Some []) given' bytes
@@ -65,11 +61,6 @@ module _ {X : Type 0} where
       ∙ (ap (λ (front : List (Option X)). front ++ second) one
       ∙ append_assoc (map (λ (item : X). Some item) was) first second)
 
-pub sink_kept : (writer : List ℕ) (h inc : ℕ) (taken : Option (List ℕ)) (faults : ℕ) (seen : List (Signed Entry))
-    → TookNothing taken → HasStop seen → IsSinkBack writer h inc taken faults seen
-sink_kept writer h inc taken faults seen none stops =
-    record { before = seen; front = ([], append-nil seen); back = inr (none, stops) }
-
 -- a sink that was kept took nothing still
 pub kept_stays : {X : Type 0} (kept : Option X) (took : X → Type 0) (seen seen' : List (Signed Entry))
     → IsPrefix seen seen' → IfSome kept (λ held. took held × HasStop seen)
@@ -97,23 +88,6 @@ module _ {A : Type 0} where
               heard = hears.heard;
             };
       }
-
-  pub sink_learned : (law : A → List Entry → Entry → Type 0) (pass later : Known A Entry) (glimpse : Glimpsed Entry)
-      (writer : List ℕ) (h inc : ℕ) (taken : Option (List ℕ)) (faults : ℕ) → Learns law pass glimpse later
-      → IsAnswered writer h inc taken faults glimpse.seen → IsSinkBack writer h inc taken faults later.seen
-  sink_learned law pass later glimpse writer h inc taken faults learned answered =
-      record { before = glimpse.seen; front = learned.theirs; back = inl answered }
-
-  pub stop_learned : (law : A → List Entry → Entry → Type 0) (pass later : Known A Entry) (glimpse : Glimpsed Entry)
-      → Learns law pass glimpse later → HasStop glimpse.seen → HasStop later.seen
-  stop_learned law pass later glimpse learned stops = stop_stays glimpse.seen later.seen learned.theirs stops
-
-  pub stop_made : (pass later : Known A Entry) (made : List Entry) → Makes pass made later → HasStop pass.seen
-      → HasStop later.seen
-  stop_made pass later made makes stops = stop_stays pass.seen later.seen makes.front stops
-
-  pub makes_same : (pass later : Known A Entry) → later ≡ pass → Makes pass [] later
-  makes_same pass later is = subst (λ (last : Known A Entry). Makes pass [] last) (sym is) (makes_none pass)
 
   pub attends : (pass handed heard later : Known A Entry) (h : ℕ) (writer : List ℕ) (inc : ℕ)
       (given : Option (List ℕ)) (ended : Bool) (faults : ℕ) (taken : Option (List ℕ)) (sink_faults : ℕ)
