@@ -13,7 +13,7 @@ use Rattle.outside.specs.Told.{Grows}
 use Rattle.arrayvec.specs.ArrayVec.{ArrayVec}
 use Rattle.book_history.specs.declared.outcomes.Spawn.TheVariants as spawn
 use Rattle.book_history.specs.Entries.{Entry}
-use Rattle.book_history.specs.Entries.Entry.{HelperDeaf, SpawnAsked, Stopped}
+use Rattle.book_history.specs.Entries.Entry.{HelperDeaf, SpawnAsked}
 use Rattle.book_gate.specs.Calls.{Enters, Learns}
 use Rattle.book_gate.specs.Histories.{entries, entries_by, is_name, signed}
 use Rattle.book_gate.specs.Known.{Glimpsed, Known}
@@ -314,13 +314,6 @@ module _ {A : Type 0} where
             (makes_one law between later (HelperDeaf h inc) entered) is fresh its goes seen_is,
       )
 
-  -- the daemon was ended
-  pub stopped : (law : A → List Entry → Entry → Type 0) (pass later then : Known A Entry)
-      → Enters law pass Stopped later → then ≡ later → Makes pass (Stopped ∷ []) then
-  stopped law pass later then entered is =
-      subst (λ (last : Known A Entry). Makes pass (Stopped ∷ []) last) (sym is)
-      (makes_one law pass later Stopped entered)
-
   -- an entry was seen by the pass that made it
   any_made : (test : Entry → Bool) (law : A → List Entry → Entry → Type 0) (pass later : Known A Entry) (entry : Entry)
       → Enters law pass entry later → test entry ≡ true → list_any test (entries later.seen) ≡ true
@@ -332,12 +325,6 @@ module _ {A : Type 0} where
       ∙ (list_any-append test (entries before) (entries last)
       ∙ (ap (λ (back : Bool). list_any test (entries before) || back) (or_false (test entry) ∙ is)
       ∙ or_true (list_any test (entries before)))))
-
-  pub has_stopped : (law : A → List Entry → Entry → Type 0) (pass later : Known A Entry) (seen : List (Signed Entry))
-      → Enters law pass Stopped later → seen ≡ later.seen → HasStop seen
-  has_stopped law pass later seen entered is =
-      ap (λ (all : List (Signed Entry)). list_any is_stop (entries all)) is
-      ∙ any_made is_stop law pass later Stopped entered refl
 
   pub has_go : (law : A → List Entry → Entry → Type 0) (pass later : Known A Entry) (h now inc : ℕ) (run : ArrayVec ℕ)
       → Enters law pass (SpawnAsked h now (spawn.Go inc run)) later → HasGo h inc later.seen

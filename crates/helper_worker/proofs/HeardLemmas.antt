@@ -1,6 +1,6 @@
 -- What a source gave, entered piece by piece.
-use Rattle.std.proofs.Common.{ℕ, ◌≡◌, ◌⊎◌, ◌<◌, Bool, true, false, true≢false, List, [], ◌++◌, Option, Some}
-use Rattle.std.proofs.Common.{None, inl, inr}
+use Rattle.std.proofs.Common.{ℕ, ◌≡◌, Bool, true, false, true≢false, List, [], ◌++◌, Option, Some}
+use Rattle.std.proofs.Common.{None, inl}
 use Rattle.std.proofs.Common.{refl, ap, sym, subst, ◌∙◌, append_assoc, append-nil}
 use Rattle.text_forms.specs.Lines.{Line, lines}
 use Rattle.line_cutter.specs.Chunking.{HasCut}
@@ -79,20 +79,4 @@ module _ {A : Type 0} where
               whole = λ is. absurd (true≢false is);
               why = inl refl;
             };
-      }
-
-  -- the source ended or failed
-  pub heard_out : (pass later : Known A Entry) (h inc : ℕ) (given mid given' : Option (List ℕ)) (held : Cutting)
-      (ended : Bool) (faults : ℕ) → HeardSoFar pass h inc given mid held later → Grows mid given' []
-      → (ended ≡ true) ⊎ (0 < faults) → Hears pass h inc given given' ended faults later
-  heard_out pass later h inc given mid given' held ended faults heard grows why =
-      record {
-        bytes = heard.bytes;
-        grows =
-            subst (λ (all : List ℕ). Grows given given' all) (append-nil heard.bytes)
-            (grows_more given mid given' heard.bytes [] heard.grows grows);
-        texts = lines heard.bytes;
-        late = false;
-        enters = heard.enters;
-        heard = record { front = ([], append-nil (lines heard.bytes)); whole = λ is. refl; why = inr why };
       }
