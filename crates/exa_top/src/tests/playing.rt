@@ -143,10 +143,13 @@ const ROWS: [Row; 9] = [
         output: "",
     },
     Row {
-        case: "a file that isn't there",
-        path: "none.conf",
+        case: "a file that can't be opened",
+        path: "one.conf",
         script: SCRIPT,
-        failing: NONE,
+        failing: Failing {
+            opens: &[0],
+            ..NONE
+        },
         line: "exabgp: configuration not read\n",
         output: "",
     },
