@@ -57,11 +57,11 @@ pub loaded : LoadsLeaveCounted → (content : Option (List ℕ → List ℕ)) (c
 loaded law content count source sink sink' book status.Ok loads =
     written content (Load count) source source sink sink' [] [] (counts_text (counts_of count loads.history)) status.Ok
     (read_none source) (read_none source)
-    (refl, loaded_text law count loads.history loads.load loads.stands.legal) refl (loads.taken, loads.same)
+    (refl, loaded_text law count loads.history loads.load loads.stands.held.legal) refl (loads.taken, loads.same)
 loaded law content count source sink sink' book status.WriteFault loads =
     written content (Load count) source source sink sink' [] [] (counts_text (counts_of count loads.history))
     status.WriteFault (read_none source) (read_none source)
-    (refl, loaded_text law count loads.history loads.load loads.stands.legal) refl
+    (refl, loaded_text law count loads.history loads.load loads.stands.held.legal) refl
     ((loads.part, loads.rest, loads.text_is, loads.taken), loads.counts)
 loaded law content count source sink sink' book status.NoMemory loads =
     subst (λ (seen : SinkSeen). Answered content (Load count) source source sink seen status.NoMemory) (sym loads.1)
