@@ -192,7 +192,7 @@ fn run<F: Files, S: Source, K: Sink>(
     input: &mut S,
     output: &mut K,
 ) -> Status
-    requires { IsBounded command.entry }
+    requires { IsBounded command }
     ensures answered { Answered (F.content files.old) command.entry
         (source_seen S.given S.left S.ended S.faults input.old)
         (source_seen S.given S.left S.ended S.faults input.new)
