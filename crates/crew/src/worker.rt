@@ -19,9 +19,16 @@ pub enum Worker<'g, F, S: Spawner, D, E, C, P, N: GateName> {
     Keeping(Keeper<'g, F, P>),
 }
 
-impl<'g, F: Files, S: Spawner, D: Dialer, E: Ear, C: Clock, P: Pause, N: GateName>
-    Worker<'g, F, S, D, E, C, P, N>
-{
+impl<'g, F: Files, S: Spawner, D: Dialer, E: Ear, C: Clock, P: Pause, N: GateName> Worker<
+    'g,
+    F,
+    S,
+    D,
+    E,
+    C,
+    P,
+    N,
+> {
     /// Does the job, until the daemon is to end.
     pub fn run<R: Wait>(&mut self, rt: &R)
         ensures { Works F.content F.faults

@@ -14,16 +14,7 @@ use std::thread;
 use std::thread::Threads;
 
 // Does one job, or calls it off.
-fn end<
-    R: Wait,
-    F: Files,
-    S: Spawner,
-    D: Dialer,
-    E: Ear,
-    C: Clock,
-    P: Pause,
-    N: GateName,
->(
+fn end<R: Wait, F: Files, S: Spawner, D: Dialer, E: Ear, C: Clock, P: Pause, N: GateName>(
     rt: &R,
     place: &mut Place<Worker<'_, F, S, D, E, C, P, N>>,
 )
@@ -49,10 +40,7 @@ fn end_all<
     C: Clock,
     P: Pause,
     N: GateName + Send,
->(
-    rt: &R,
-    places: &mut [Place<Worker<'_, F, S, D, E, C, P, N>>],
-)
+>(rt: &R, places: &mut [Place<Worker<'_, F, S, D, E, C, P, N>>])
     ensures { EachBecame (Ends F.content F.faults
         (λ spawner. told_by (S.children spawner) (S.asked spawner) (S.failed spawner))
         (λ dialer. told (D.links dialer) (D.asked dialer) (D.failed dialer))

@@ -22,6 +22,8 @@ use Rattle.helper_worker.specs.Rounds.Outcome.{Heard}
 use Rattle.helper_worker.specs.Rounds.Round.{Start}
 use Rattle.helper_worker.specs.Serving.{IsServed, Rises, Served, entries_in}
 use Rattle.peer_worker.specs.Rounds.{IsGood, Told as Dialling, Tells as Dials, Round as Talking, entries_of as talked_by, stopping}
+use Rattle.script_play.specs.declared.status.Status.{Status}
+use Rattle.script_play.specs.declared.status.Status.TheVariants as status_is
 use Rattle.daemon.specs.Names.{IsWorker, keeper_of, reader_of, talker_of}
 
 -- a reader's entries are those of rounds, and last that the daemon ends; its spawner tells them; and each sink came back
@@ -101,14 +103,14 @@ module _ (refused : ℕ → Bool) (old new : Devices) (content : Option (List �
   abbrev pub TalkerEnds : ℕ → Type 0
   TalkerEnds n =
       ((refused (slots.helpers + slots.helpers + n) ≡ false)
-       × TalkerRan slots.helpers n (old.dialling n) (new.dialling n) last.seen)
+      × TalkerRan slots.helpers n (old.dialling n) (new.dialling n) last.seen)
       ⊎ ((refused (slots.helpers + slots.helpers + n) ≡ true) × IsCalledOff (talker_of slots.helpers n) last.seen
       × (new.dialling n ≡ old.dialling n))
 
   abbrev pub KeeperEnds : Type 0
   KeeperEnds =
       ((refused (slots.helpers + slots.helpers + slots.peers) ≡ false)
-       × KeeperRan content path slots old.faults new.faults last.seen)
+      × KeeperRan content path slots old.faults new.faults last.seen)
       ⊎ ((refused (slots.helpers + slots.helpers + slots.peers) ≡ true)
       × IsCalledOff (keeper_of slots.helpers slots.peers) last.seen × (new.faults ≡ old.faults))
 
@@ -119,3 +121,7 @@ module _ (refused : ℕ → Bool) (old new : Devices) (content : Option (List �
     pub repliers : (h : ℕ) → h < slots.helpers → ReplierEnds h
     pub talkers : (n : ℕ) → n < slots.peers → TalkerEnds n
     pub keeper : KeeperEnds
+
+-- with these statuses the workers were started
+abbrev pub HasRun : Status → Type 0
+HasRun status = (status ≡ status_is.Ok) ⊎ (status ≡ status_is.NoCrew)

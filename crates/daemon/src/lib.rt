@@ -5,8 +5,13 @@
 //! and its gate), and config_files. It doesn't promise that a run ends.
 #![tactic(auto)]
 
+mod apart;
+mod making;
+mod run;
+mod running;
+mod stock;
 mod words;
 mod world;
 
-pub use words::run_path;
+pub use run::exabgp_run;
 pub use world::{Ran, World};

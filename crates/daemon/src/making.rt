@@ -20,15 +20,7 @@ fn two_passes<S, D, E>(stock: &mut Stock<S, D, E>) -> Option<(Pass<Book>, Pass<B
 }
 
 /// The jobs of a helper slot, of the next passes and the next spawner. Where there is no memory all are put back.
-pub fn make_slot<
-    'g,
-    S: Spawner + Drop,
-    D,
-    E,
-    C: Clock + Drop,
-    P: Pause + Drop,
-    N: GateName,
->(
+pub fn make_slot<'g, S: Spawner + Drop, D, E, C: Clock + Drop, P: Pause + Drop, N: GateName>(
     alloc: Global,
     gate: &'g Gate<Book>,
     h: usize,
@@ -110,16 +102,7 @@ fn add_pair<'g, F, S: Spawner + Drop, D, E, C, P, N: GateName>(
 }
 
 /// The jobs of all helper slots, behind each other.
-pub fn make_helpers<
-    'g,
-    F,
-    S: Spawner + Drop,
-    D,
-    E,
-    C: Clock + Drop,
-    P: Pause + Drop,
-    N: GateName,
->(
+pub fn make_helpers<'g, F, S: Spawner + Drop, D, E, C: Clock + Drop, P: Pause + Drop, N: GateName>(
     alloc: Global,
     gate: &'g Gate<Book>,
     helpers: usize,
