@@ -1,5 +1,5 @@
 -- What became of jobs.
-use Rattle.std.specs.Prelude.{ℕ, zero, suc, ◌≡◌, ◌<◌, ◌×◌, Bool, true, false, not, ◌&&◌, List, [], ◌∷◌, length, slice_index_or, ⊤, ⊥}
+use Rattle.std.specs.Prelude.{ℕ, ◌≡◌, ◌<◌, Bool, true, false, List, length, slice_index_or}
 use Rattle.std.specs.declared.option.Option.{Option}
 use Rattle.helper_worker.specs.Rounds.{Told as Spawning}
 use Rattle.outside.specs.Refusals.{Refusals, is_refused}
@@ -22,18 +22,15 @@ module _ {F S D E C P : Type 0} (content : F → Option (List ℕ → List ℕ))
     pub off : old.refused ≡ true → IsOff old.worker new.worker
 
 module _ {W : Type 0} where
-  -- from a number on, those are marked that the plan refuses, and the jobs stay
-  abbrev pub AreMarkedFrom : ℕ → Refusals → List (Place W) → List (Place W) → Type 0
-  AreMarkedFrom k plan [] [] = ⊤
-  AreMarkedFrom k plan [] (new ∷ news) = ⊥
-  AreMarkedFrom k plan (old ∷ olds) [] = ⊥
-  AreMarkedFrom k plan (old ∷ olds) (new ∷ news) =
-      (new ≡ record old { refused = is_refused plan k }) × AreMarkedFrom (suc k) plan olds news
+  -- those are marked that the plan refuses, by their numbers, and the jobs stay
+  pub record AreMarked (plan : Refusals) (old new : List (Place W)) : Type 0 where
+    pub count : length new ≡ length old
+    pub each : (i : ℕ) (d : Place W) → i < length old
+        → slice_index_or new i d ≡ record (slice_index_or old i d) { refused = is_refused plan i }
 
-  abbrev pub AreMarked : Refusals → List (Place W) → List (Place W) → Type 0
-  AreMarked = AreMarkedFrom 0
+-- none of so many jobs is refused, or one is
+abbrev pub RefusesNone : Refusals → ℕ → Type 0
+RefusesNone plan count = (i : ℕ) → i < count → is_refused plan i ≡ false
 
-  -- whether none is refused
-  abbrev pub all_run : List (Place W) → Bool
-  all_run [] = true
-  all_run (place ∷ places) = not place.refused && all_run places
+abbrev pub RefusesOne : Refusals → ℕ → Type 0
+RefusesOne plan count = (i : ℕ) × (i < count) × (is_refused plan i ≡ true)

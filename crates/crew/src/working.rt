@@ -1,8 +1,7 @@
 //! Running the jobs.
-ghost use Rattle.std.specs.Prelude.{◌≡◌, length, true, false};
-ghost use Rattle.crew.specs.Crews.{AreMarked, EachBecame, Ends, all_run};
+ghost use Rattle.std.specs.Prelude.{◌≡◌, length};
+ghost use Rattle.crew.specs.Crews.{EachBecame, Ends};
 ghost use Rattle.helper_worker.specs.Rounds.{told as told_by};
-ghost use Rattle.outside.specs.Told.{Rose};
 ghost use Rattle.peer_worker.specs.Rounds.{told};
 
 use crate::place::Place;
