@@ -11,7 +11,7 @@ use Rattle.text_history.specs.Plays.{IsPlayPart}
 use Rattle.script_play.specs.declared.status.Status.{Status}
 use Rattle.script_play.specs.declared.status.Status.TheVariants as status
 use Rattle.exa_top.specs.declared.words.TextCommand.{TextCommand}
-use Rattle.exa_top.specs.declared.words.TextCommand.TheVariants.{Encode, Check, Play, Parse, Decode, Help, Version}
+use Rattle.exa_top.specs.declared.words.TextCommand.TheVariants.{Encode, Check, Play, Load, Parse, Decode, Help, Version}
 use Rattle.exa_top.specs.Encoding.{IsEncoding, marker, last_text}
 use Rattle.exa_top.specs.Parsing.{IsParsing}
 use Rattle.exa_top.specs.Played.{IsPlayed, IsShown}
@@ -53,6 +53,7 @@ whole_is_few content (Encode side) source source' bytes whole = few_given input_
 whole_is_few content (Check path) source source' bytes whole = untouched_is_few source source' bytes whole.0
 whole_is_few content (Play path) source source' bytes whole = few_given input_limit source.given source'.given bytes
     whole.0.given whole.0.short
+whole_is_few content (Load count) source source' bytes whole = untouched_is_few source source' bytes whole
 whole_is_few content Parse source source' bytes whole = few_given input_limit source.given source'.given bytes
     whole.given whole.short
 whole_is_few content (Decode caps) source source' bytes whole = few_given input_limit source.given source'.given bytes
@@ -86,6 +87,7 @@ pub whole_is_configured : (content : Option (List ℕ → List ℕ)) (command : 
 whole_is_configured content (Encode side) source source' bytes whole = tt
 whole_is_configured content (Check path) source source' bytes whole = whole.1
 whole_is_configured content (Play path) source source' bytes whole = whole.1
+whole_is_configured content (Load count) source source' bytes whole = tt
 whole_is_configured content Parse source source' bytes whole = tt
 whole_is_configured content (Decode caps) source source' bytes whole = tt
 whole_is_configured content Help source source' bytes whole = tt
@@ -107,6 +109,7 @@ whole_is_part content (Encode side) input early late outcome = outcome
 whole_is_part content (Check path) input early late outcome = outcome
 whole_is_part content (Play path) input early late outcome =
     (inr (played_is_part content path.now input early outcome.0), outcome.1)
+whole_is_part content (Load count) input early late outcome = (outcome.0, inr outcome.1)
 whole_is_part content Parse input early late outcome = outcome
 whole_is_part content (Decode caps) input early late outcome = outcome
 whole_is_part content Help input early late outcome = outcome

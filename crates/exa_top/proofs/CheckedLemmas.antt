@@ -8,7 +8,7 @@ use Rattle.script_play.specs.declared.status.Status.TheVariants as status
 use Rattle.exa_top.specs.declared.words.TextCommand.{TextCommand}
 use Rattle.text_history.specs.Configured.{IsFaultAt}
 use Rattle.script_play.specs.Status.{IsUnread}
-use Rattle.exa_top.specs.declared.words.TextCommand.TheVariants.{Encode, Check, Play, Parse, Decode, Help, Version}
+use Rattle.exa_top.specs.declared.words.TextCommand.TheVariants.{Encode, Check, Play, Load, Parse, Decode, Help, Version}
 use Rattle.exa_top.specs.Top.{Answered, EndsAtOnce, IsPartOutput, IsRefusedFor, NamesFile, ReadsPart}
 use Rattle.exa_top.proofs.AnsweredLemmas.{nothing_written, read_none, untouched_is_few}
 
@@ -95,6 +95,7 @@ pub refused_names : (content : Option (List ℕ → List ℕ)) (command : TextCo
 refused_names content (Encode side) fault refused = refused
 refused_names content (Check path) fault refused = tt
 refused_names content (Play path) fault refused = tt
+refused_names content (Load count) fault refused = refused
 refused_names content Parse fault refused = refused
 refused_names content (Decode caps) fault refused = refused
 refused_names content Help fault refused = refused

@@ -10,7 +10,7 @@ use Rattle.outside.specs.Told.{AreLeftFrom, CountsOne, Rose}
 use Rattle.script_play.specs.declared.status.Status.{Status}
 use Rattle.script_play.specs.declared.status.Status.TheVariants as status
 use Rattle.exa_top.specs.declared.words.TextCommand.{TextCommand}
-use Rattle.exa_top.specs.declared.words.TextCommand.TheVariants.{Encode, Check, Play, Parse, Decode, Help, Version}
+use Rattle.exa_top.specs.declared.words.TextCommand.TheVariants.{Encode, Check, Play, Load, Parse, Decode, Help, Version}
 use Rattle.text_history.specs.Configured.{AreTextSlots, IsConfigAt, IsFaultAt}
 use Rattle.exa_top.specs.Top.{input_limit, Answered, HasConfig, HasFault, IsConfigured, IsLeftShort, IsRefusedFor}
 use Rattle.exa_top.specs.Top.{IsToldConfig, IsToldFault, HasBadLine, HasScript, Ran, ReadsInput}
@@ -42,6 +42,7 @@ not_refused law content (Check path) fault refused good =
     config_apart law content path.now refused.0 fault refused.1 refused.2 good
 not_refused law content (Play path) fault refused good =
     config_apart law content path.now refused.0 fault refused.1 refused.2 good
+not_refused law content (Load count) fault refused good = refused
 not_refused law content Parse fault refused good = refused
 not_refused law content (Decode caps) fault refused good = refused
 not_refused law content Help fault refused good = refused
@@ -63,6 +64,7 @@ not_configured law content (Check path) fault good told =
     fault_apart law content path.now good.0 good.2 fault good.1 good.3 told
 not_configured law content (Play path) fault good told =
     fault_apart law content path.now good.0 good.2 fault good.1 good.3 told
+not_configured law content (Load count) fault good told = told
 not_configured law content Parse fault good told = told
 not_configured law content (Decode caps) fault good told = told
 not_configured law content Help fault good told = told
@@ -84,6 +86,7 @@ refused_once law content (Check path) fault other refused told =
     fault_once law content path.now refused.0 fault other refused.1 refused.2 told
 refused_once law content (Play path) fault other refused told =
     fault_once law content path.now refused.0 fault other refused.1 refused.2 told
+refused_once law content (Load count) fault other refused told = absurd told
 refused_once law content Parse fault other refused told = absurd told
 refused_once law content (Decode caps) fault other refused told = absurd told
 refused_once law content Help fault other refused told = absurd told
@@ -101,6 +104,7 @@ line_apart : (content : Option (List ℕ → List ℕ)) (command : TextCommand) 
 line_apart content (Encode side) left bad told = bad
 line_apart content (Check path) left bad told = bad
 line_apart content (Play path) left bad told = script_apart content path.now left bad told
+line_apart content (Load count) left bad told = bad
 line_apart content Parse left bad told = bad
 line_apart content (Decode caps) left bad told = bad
 line_apart content Help left bad told = bad

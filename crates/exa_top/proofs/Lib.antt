@@ -15,4 +15,6 @@ pub mod DecodedLemmas
 pub mod CompleteLemmas
 pub mod FileLemmas
 pub mod PlayedLemmas
+pub mod PlainLemmas
+pub mod LoadedLemmas
 pub mod HealthLemmas

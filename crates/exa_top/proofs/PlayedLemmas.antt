@@ -22,7 +22,7 @@ use Rattle.script_play.specs.Streams.{ReadPart as GavePart}
 use Rattle.script_play.specs.Streams.{part as in_part, unopened}
 use Rattle.script_play.proofs.ScriptLemmas.{lines_front}
 use Rattle.exa_top.specs.declared.words.TextCommand.{TextCommand}
-use Rattle.exa_top.specs.declared.words.TextCommand.TheVariants.{Encode, Check, Play, Parse, Decode, Help, Version}
+use Rattle.exa_top.specs.declared.words.TextCommand.TheVariants.{Encode, Check, Play, Load, Parse, Decode, Help, Version}
 use Rattle.exa_top.specs.Words.{IsCommand}
 use Rattle.exa_top.specs.Played.{CountsUnread, IsBadScript, IsLeftRefused, IsPlayedOver, IsShown, IsUnplayed}
 use Rattle.exa_top.specs.Played.{PlaysFile}
@@ -431,6 +431,8 @@ plays_named content words (Check p) path source source' sink sink' files files' 
 plays_named content words (Play p) path source source' sink sink' files files' ends is named plays =
     subst (λ (at : List ℕ). PlaysFile content at source source' sink sink' files files' ends)
     (same_path p.now path (sym is ∙ named)) plays
+plays_named content words (Load count) path source source' sink sink' files files' ends is named plays =
+    let letter : 108 ≡ 112 = same_letter _ _ (sym is.0 ∙ named) in absurd (omega (arith, letter))
 plays_named content words Parse path source source' sink sink' files files' ends is named plays =
     let longer : 1 ≡ 2 = ap length (sym is ∙ named) in absurd (omega (arith, longer))
 plays_named content words (Decode caps) path source source' sink sink' files files' ends is named plays =
@@ -446,6 +448,7 @@ pub refused_plays : (content : Option (List ℕ → List ℕ)) (command : TextCo
 refused_plays content (Encode side) left bad = bad
 refused_plays content (Check p) left bad = bad
 refused_plays content (Play p) left bad = tt
+refused_plays content (Load count) left bad = bad
 refused_plays content Parse left bad = bad
 refused_plays content (Decode caps) left bad = bad
 refused_plays content Help left bad = bad

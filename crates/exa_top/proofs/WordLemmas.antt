@@ -2,9 +2,11 @@
 use Rattle.std.proofs.Common.{ℕ, ◌≡◌, ap, codes, get_or, List, [], ◌∷◌, length, refl, subst, sym, arith}
 use Rattle.route_values.specs.Caps.{Caps}
 use Rattle.exa_top.specs.CapWords.{AreCaps}
+use Rattle.exa_top.specs.Loaded.{IsLoadWords}
+use Rattle.exa_top.specs.Top.{IsBounded}
 use Rattle.exa_top.specs.Words.{IsCommand}
 use Rattle.exa_top.specs.declared.words.TextCommand.{TextCommand}
-use Rattle.exa_top.specs.declared.words.TextCommand.TheVariants.{Encode, Check, Play, Parse, Decode, Help, Version}
+use Rattle.exa_top.specs.declared.words.TextCommand.TheVariants.{Encode, Check, Play, Load, Parse, Decode, Help, Version}
 
 pub local_as_is : (a b c a' b' c' : List ℕ) → codes "encode" ∷ a ∷ b ∷ c ∷ [] ≡ codes "encode" ∷ a' ∷ b' ∷ c' ∷ []
     → a ≡ a'
@@ -44,6 +46,8 @@ decode_none words none (Check path) is =
     let letter : 100 ≡ 99 = first_letter _ _ is in absurd (omega (arith, letter))
 decode_none words none (Play path) is =
     let letter : 100 ≡ 112 = first_letter _ _ is in absurd (omega (arith, letter))
+decode_none words none (Load count) is =
+    let letter : 100 ≡ 108 = first_letter _ _ is.0 in absurd (omega (arith, letter))
 decode_none words none Parse is =
     let letter : 100 ≡ 112 = first_letter _ _ is in absurd (omega (arith, letter))
 decode_none words none (Decode caps) is =
@@ -52,3 +56,33 @@ decode_none words none Help is =
     let letter : 100 ≡ 45 = first_letter _ _ is in absurd (omega (arith, letter))
 decode_none words none Version is =
     let letter : 100 ≡ 45 = first_letter _ _ is in absurd (omega (arith, letter))
+
+-- words behind `load` that spell no count spell no command
+pub load_none : (words : List (List ℕ)) → ((count : ℕ) → IsLoadWords (codes "load" ∷ words) count → ⊥)
+    → (spelled : TextCommand) → IsCommand (codes "load" ∷ words) spelled → ⊥
+load_none words none (Encode side) is =
+    let letter : 108 ≡ 101 = first_letter _ _ is.words_are in absurd (omega (arith, letter))
+load_none words none (Check path) is =
+    let letter : 108 ≡ 99 = first_letter _ _ is in absurd (omega (arith, letter))
+load_none words none (Play path) is =
+    let letter : 108 ≡ 112 = first_letter _ _ is in absurd (omega (arith, letter))
+load_none words none (Load count) is = none count is
+load_none words none Parse is =
+    let letter : 108 ≡ 112 = first_letter _ _ is in absurd (omega (arith, letter))
+load_none words none (Decode caps) is =
+    let letter : 108 ≡ 100 = first_letter _ _ is.1 in absurd (omega (arith, letter))
+load_none words none Help is =
+    let letter : 108 ≡ 45 = first_letter _ _ is in absurd (omega (arith, letter))
+load_none words none Version is =
+    let letter : 108 ≡ 45 = first_letter _ _ is in absurd (omega (arith, letter))
+
+-- what a command asks for that is spelled is bounded
+pub spelled_bounded : (words : List (List ℕ)) (command : TextCommand) → IsCommand words command → IsBounded command
+spelled_bounded words (Encode side) is = tt
+spelled_bounded words (Check path) is = tt
+spelled_bounded words (Play path) is = tt
+spelled_bounded words (Load count) is = is.2
+spelled_bounded words Parse is = tt
+spelled_bounded words (Decode caps) is = tt
+spelled_bounded words Help is = tt
+spelled_bounded words Version is = tt

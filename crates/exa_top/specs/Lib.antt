@@ -4,6 +4,8 @@ pub mod Encoding
 pub mod Parsing
 pub mod Files
 pub mod CapWords
+pub mod Plain
+pub mod Loaded
 pub mod Words
 pub mod Decoded
 pub mod Played

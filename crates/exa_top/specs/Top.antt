@@ -10,13 +10,15 @@ use Rattle.config_model.specs.declared.slots.Slots.{Slots}
 use Rattle.config_model.specs.Sections.{Sections}
 use Rattle.config_reader.specs.Files.{Configures, IsFirstFault}
 use Rattle.outside.specs.Told.{Grows, Shrinks, AreLeft, AreLeftFrom, CountsOne}
+use Rattle.script_play.specs.Loads.{max_routes}
 use Rattle.script_play.specs.declared.status.Status.{Status}
 use Rattle.script_play.specs.declared.status.Status.TheVariants as status
 use Rattle.exa_top.specs.declared.words.TextCommand.{TextCommand}
-use Rattle.exa_top.specs.declared.words.TextCommand.TheVariants.{Encode, Check, Play, Parse, Decode, Help, Version}
+use Rattle.exa_top.specs.declared.words.TextCommand.TheVariants.{Encode, Check, Play, Load, Parse, Decode, Help, Version}
 use Rattle.exa_top.specs.Answers.{reply_text}
 use Rattle.text_history.specs.Configured.{AreTextSlots, IsConfigAt, IsFaultAt}
 use Rattle.exa_top.specs.Encoding.{IsEncoding}
+use Rattle.exa_top.specs.Loaded.{IsLoaded}
 use Rattle.exa_top.specs.Parsing.{IsParsing}
 use Rattle.exa_top.specs.Played.{IsBadScript, IsPlayed, IsPlayedPart, IsToldScript, PlaysFile}
 use Rattle.exa_top.specs.Words.{IsCommand}
@@ -44,6 +46,8 @@ help_text =
     ++ codes "           reads a configuration file, writes ok or says what its first fault is\n"
     ++ codes "       exabgpd play CONFIG\n"
     ++ codes "           reads a script of events, writes what each is answered\n"
+    ++ codes "       exabgpd load COUNT\n"
+    ++ codes "           announces so many routes to one neighbour, withdraws each second one, writes nine counts\n"
     ++ codes "       exabgpd parse\n"
     ++ codes "           reads command lines, writes for each whether it reads or where its first fault is\n"
     ++ codes "       exabgpd decode CAP ..\n"
@@ -54,22 +58,25 @@ help_text =
     ++ codes "       exabgpd --version\n" ++ codes "           writes the name and the version\n"
 
 -- The output that belongs to a command and what it read: what may be written while that is read, and what only after
--- its end. Replies to lines come early, and the messages late, and so does the line of `check`. What `decode` and
+-- its end. Replies to lines come early, and the messages late, and so do the line of `check` and the
+-- counts of `load`. What `decode` and
 -- `play` write comes as early as the lines that it belongs to.
 abbrev pub IsOutput : Option (List ℕ → List ℕ) → TextCommand → List ℕ → List ℕ → List ℕ → Type 0
 IsOutput content (Encode side) input early late =
     (whole : IsEncoding side input (early ++ late)) × (early ≡ flat_map reply_text whole.entries)
 IsOutput content (Check path) input early late = (early ≡ []) × (late ≡ checked_text)
 IsOutput content (Play path) input early late = IsPlayed content path.now input early × (late ≡ [])
+IsOutput content (Load count) input early late = (early ≡ []) × IsLoaded count late
 IsOutput content Parse input early late = IsParsing input early × (late ≡ [])
 IsOutput content (Decode caps) input early late = IsDecoding caps input early × (late ≡ [])
 IsOutput content Help input early late = (early ≡ help_text) × (late ≡ [])
 IsOutput content Version input early late = (early ≡ version_text) × (late ≡ [])
 
 -- The output of a command that didn't come to its end. A script may be refused at a line, and then no output belongs to
--- the whole of it.
+-- the whole of it; a load may find no memory, and then nothing is told of it.
 abbrev pub IsPartOutput : Option (List ℕ → List ℕ) → TextCommand → List ℕ → List ℕ → List ℕ → Type 0
 IsPartOutput content (Play path) input early late = IsPlayedPart content path.now input early × (late ≡ [])
+IsPartOutput content (Load count) input early late = (early ≡ []) × ((late ≡ []) ⊎ IsLoaded count late)
 IsPartOutput content command input early late = IsOutput content command input early late
 
 -- the file that a command names, if it names one, is a configuration for the slots of a text command
@@ -169,14 +176,15 @@ pub record ReadNothing (source source' : SourceSeen) (bytes : List ℕ) : Type 0
   pub same : source' ≡ source
   pub none : bytes ≡ []
 
--- what a command reads that ends well: `check` and `play` their file, and all but `check`, `--help` and `--version` the
--- whole of their input
+-- what a command reads that ends well: `check` and `play` their file, and all but `check`, `load`, `--help` and `--version`
+-- the whole of their input
 abbrev pub ReadsWhole : Option (List ℕ → List ℕ) → TextCommand → SourceSeen → SourceSeen → List ℕ → Type 0
 ReadsWhole content (Encode side) source source' bytes = ReadToEnd source source' bytes
 ReadsWhole content (Check path) source source' bytes =
     ReadNothing source source' bytes × IsConfigured content (Check path)
 ReadsWhole content (Play path) source source' bytes =
     ReadToEnd source source' bytes × IsConfigured content (Play path)
+ReadsWhole content (Load count) source source' bytes = ReadNothing source source' bytes
 ReadsWhole content Parse source source' bytes = ReadToEnd source source' bytes
 ReadsWhole content (Decode caps) source source' bytes = ReadToEnd source source' bytes
 ReadsWhole content Help source source' bytes = ReadNothing source source' bytes
@@ -188,6 +196,7 @@ abbrev pub ReadsPart : TextCommand → SourceSeen → SourceSeen → List ℕ �
 ReadsPart (Encode side) source source' bytes = ReadPart source source' bytes
 ReadsPart (Check path) source source' bytes = ReadNothing source source' bytes
 ReadsPart (Play path) source source' bytes = ReadPart source source' bytes
+ReadsPart (Load count) source source' bytes = ReadNothing source source' bytes
 ReadsPart Parse source source' bytes = ReadPart source source' bytes
 ReadsPart (Decode caps) source source' bytes = ReadFront source source' bytes
 ReadsPart Help source source' bytes = ReadNothing source source' bytes
@@ -319,6 +328,11 @@ PlayScript words = (command : TextCommand) × IsCommand words command × PlaysSc
 -- the script of any command that the words spell, if it reads one, is told and has no line that is none
 abbrev pub HaveScript : List (List ℕ) → Option (List ℕ → List ℕ) → Option (List ℕ) → Type 0
 HaveScript words content left = (command : TextCommand) → IsCommand words command → HasScript content command left
+
+-- a command asks for no more routes than a load has at most
+abbrev pub IsBounded : TextCommand → Type 0
+IsBounded (Load count) = count ≤ max_routes
+IsBounded _ = ⊤
 
 -- what a command leaves that plays a script
 abbrev pub PlaysIts : Option (List ℕ → List ℕ) → TextCommand → SourceSeen → SourceSeen → SinkSeen → SinkSeen → ℕ → ℕ

@@ -6,8 +6,9 @@ use Rattle.route_values.specs.Caps.{Caps}
 use Rattle.text_forms.specs.Addresses.{IsIpv4}
 use Rattle.text_forms.specs.Numbers.{IsAsn}
 use Rattle.exa_top.specs.CapWords.{AreCaps}
+use Rattle.exa_top.specs.Loaded.{IsLoadWords}
 use Rattle.exa_top.specs.declared.words.TextCommand.{TextCommand}
-use Rattle.exa_top.specs.declared.words.TextCommand.TheVariants.{Encode, Check, Play, Parse, Decode, Help, Version}
+use Rattle.exa_top.specs.declared.words.TextCommand.TheVariants.{Encode, Check, Play, Load, Parse, Decode, Help, Version}
 
 -- `encode LOCAL_AS PEER_AS LOCAL_IP`
 pub record IsEncode (words : List (List ℕ)) (side : Side) : Type 0 where
@@ -30,6 +31,7 @@ abbrev pub IsCommand : List (List ℕ) → TextCommand → Type 0
 IsCommand words (Encode side) = IsEncode words side
 IsCommand words (Check path) = words ≡ codes "check" ∷ path.now ∷ []
 IsCommand words (Play path) = words ≡ codes "play" ∷ path.now ∷ []
+IsCommand words (Load count) = IsLoadWords words count
 IsCommand words Parse = words ≡ codes "parse" ∷ []
 IsCommand words (Decode caps) = IsDecode words caps
 IsCommand words Help = words ≡ codes "--help" ∷ []

@@ -5,7 +5,7 @@ ghost use Rattle.config_model.specs.declared.fault.ConfigFault.{ConfigFault as F
 ghost use Rattle.exa_top.specs.Played.{PlaysFile};
 ghost use Rattle.exa_top.specs.Top.{Answered, AreConfigured, Began, EndsAtOnce, EndsLate, Finished};
 ghost use Rattle.exa_top.specs.Top.{GaveFrom, GaveLimit, HaveConfig, HaveFault, HaveScript, IsLeft};
-ghost use Rattle.exa_top.specs.Top.{IsLeftShort, IsOverrun};
+ghost use Rattle.exa_top.specs.Top.{IsBounded, IsLeftShort, IsOverrun};
 ghost use Rattle.exa_top.specs.Top.{NameFile, NamesFile, PlayScript, PlaysIts, PlaysScript};
 ghost use Rattle.exa_top.specs.Top.{ReadInput, ReadPart, ReadToEnd, Refuses, Wrote, input_limit};
 ghost use Rattle.exa_top.specs.Words.{IsCommand};
@@ -17,6 +17,7 @@ ghost use Rattle.outside.specs.Told.{CountsOne, Rose};
 
 use crate::decoding::decode;
 use crate::encoding::encode_all;
+use crate::loading::load_plain;
 use crate::parsing::parse_all;
 use crate::playing::play_over;
 use crate::words::{TextCommand, text_command};
@@ -50,6 +51,8 @@ const HELP: &[u8] = b"usage: exabgpd encode LOCAL_AS PEER_AS LOCAL_IP\n\
 \x20          reads a configuration file, writes ok or says what its first fault is\n\
 \x20      exabgpd play CONFIG\n\
 \x20          reads a script of events, writes what each is answered\n\
+\x20      exabgpd load COUNT\n\
+\x20          announces so many routes to one neighbour, withdraws each second one, writes nine counts\n\
 \x20      exabgpd parse\n\
 \x20          reads command lines, writes for each whether it reads or where its first fault is\n\
 \x20      exabgpd decode CAP ..\n\
@@ -71,6 +74,8 @@ const HELP: &[u8] = b"usage: exabgpd encode LOCAL_AS PEER_AS LOCAL_IP\n\
 /// `play CONFIG` reads the file at this path as `check` does, and then its input to the end as a script of events. It
 /// opens the daemon's engine by the configuration, enters the event of each line, and writes what that is answered
 /// before it reads on. `ScriptRefused` says the first line that is in no production.
+/// `load COUNT` reads no input. It opens the engine with one neighbour and one process, enters lines that announce so
+/// many routes and then withdraw each second one, and writes nine counts of what came of it.
 /// `parse` reads its input to the end as command lines. It writes for each line, in order, one line: `ok`, its first
 /// fault as `error token PLACE`, `error many PLACE LIMIT` or `error long`, or `error memory`.
 /// `decode CAP ..` reads its input to the end as UPDATE messages in hexadecimal, one a line, of a session with these
@@ -187,6 +192,7 @@ fn run<F: Files, S: Source, K: Sink>(
     input: &mut S,
     output: &mut K,
 ) -> Status
+    requires { IsBounded command }
     ensures answered { Answered (F.content files.old) command.entry
         (source_seen S.given S.left S.ended S.faults input.old)
         (source_seen S.given S.left S.ended S.faults input.new)
@@ -212,6 +218,7 @@ fn run<F: Files, S: Source, K: Sink>(
         TextCommand::Encode(side) => encode(alloc, &side, input, output),
         TextCommand::Check(path) => check(alloc, path, files, output),
         TextCommand::Play(path) => play_over(alloc, path, files, input, output),
+        TextCommand::Load(count) => load_plain(alloc, count, output),
         TextCommand::Parse => parse(alloc, input, output),
         TextCommand::Decode(caps) => decode(alloc, &caps, input, output),
         TextCommand::Help => write_text(output, HELP),

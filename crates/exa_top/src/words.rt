@@ -1,13 +1,15 @@
 //! The words of a command.
-ghost use Rattle.std.specs.Prelude.{◌≡◌, [], ◌∷◌, codes, map, IfSome, IfNone};
+ghost use Rattle.std.specs.Prelude.{ℕ, ◌≡◌, [], ◌∷◌, codes, map, IfSome, IfNone};
 ghost use Rattle.route_values.specs.declared.settings.Side.{Side as Ends};
+ghost use Rattle.exa_top.specs.Loaded.{IsLoadWords};
 ghost use Rattle.exa_top.specs.Words.{IsCommand, IsEncode};
 ghost use Rattle.exa_top.specs.declared.words.TextCommand.{TextCommand as Spelled};
 
 use crate::caps::caps_of;
 use crate::command::is;
 use route_values::{Addr, Caps, Side};
-use text_forms::{asn, ipv4};
+use script_play::MAX_LOAD;
+use text_forms::{asn, ipv4, number};
 
 /// A text command.
 #[derive(Clone, Copy, Debug, PartialEq, Eq)]
@@ -18,6 +20,8 @@ pub enum TextCommand<'a> {
     Check(&'a str),
     /// `play CONFIG`: the path of a file.
     Play(&'a str),
+    /// `load COUNT`: how many routes.
+    Load(u32),
     /// `parse`
     Parse,
     /// `decode CAP ..`: messages of a session with these capabilities.
@@ -43,6 +47,9 @@ pub fn text_command<'a>(words: &[&'a str]) -> Option<TextCommand<'a>>
     }
     if is(name.as_bytes(), b"play") {
         return play_of(operands);
+    }
+    if is(name.as_bytes(), b"load") {
+        return load_of(operands);
     }
     if is(name.as_bytes(), b"decode") {
         return decode_of(operands);
@@ -98,6 +105,44 @@ fn play_of<'a>(operands: &[&'a str]) -> Option<TextCommand<'a>>
         return None;
     }
     Some(TextCommand::Play(path))
+}
+
+fn load_of<'a>(operands: &[&'a str]) -> Option<TextCommand<'a>>
+    ensures found { IfSome result
+        (λ spelled. IsCommand (codes "load" ∷ map (λ w. w.now) operands.now) spelled) }
+    ensures none { IfNone result ((spelled : Spelled)
+        → IsCommand (codes "load" ∷ map (λ w. w.now) operands.now) spelled → ⊥) }
+{
+    match count_of(operands) {
+        Some(count) => Some(TextCommand::Load(count)),
+        None => None,
+    }
+}
+
+// `COUNT`
+fn count_of(operands: &[&str]) -> Option<u32>
+    ensures found { IfSome result
+        (λ count. IsLoadWords (codes "load" ∷ map (λ w. w.now) operands.now) count) }
+    ensures none { IfNone result ((count : ℕ)
+        → IsLoadWords (codes "load" ∷ map (λ w. w.now) operands.now) count → ⊥) }
+{
+    let (text, others) = operands.split_first()?;
+    if !others.is_empty() {
+        return None;
+    }
+    count_from(text)
+}
+
+fn count_from(text: &str) -> Option<u32>
+    ensures found { IfSome result (λ count. IsLoadWords (codes "load" ∷ text.now ∷ []) count) }
+    ensures none { IfNone result ((count : ℕ)
+        → IsLoadWords (codes "load" ∷ text.now ∷ []) count → ⊥) }
+{
+    let count = number(text.as_bytes())?;
+    if count == 0 || count > MAX_LOAD {
+        return None;
+    }
+    Some(count)
 }
 
 fn decode_of<'a>(operands: &[&'a str]) -> Option<TextCommand<'a>>

@@ -1,5 +1,6 @@
 use Rattle.exa_top.proofs.CompleteLemmas.{completed, counts_rose, refuses_it}
 use Rattle.exa_top.proofs.PlayedLemmas.{play_spelled, plays_named, refused_plays}
+use Rattle.exa_top.proofs.WordLemmas.{spelled_bounded}
 use Rattle.exa_top.proofs.top.exabgp_text.Goals as goal
 
 pub returns-in-Some-clause-refuses : goal.returns-in-Some-clause-refuses
@@ -29,3 +30,6 @@ returns-in-Some-clause-script g c line is = (
 pub returns-in-None-clause-plays : goal.returns-in-None-clause-plays
 returns-in-None-clause-plays g c path named =
     let spelled = play_spelled c.args.words.now path named in absurd (c.in-None.ensures.none spelled.0 spelled.1)
+
+pub run-requires : goal.run-requires
+run-requires g c = spelled_bounded _ c.in-Some.command c.in-Some.ensures.found

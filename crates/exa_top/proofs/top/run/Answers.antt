@@ -1,5 +1,6 @@
 use Rattle.std.proofs.Common.{refl}
-use Rattle.exa_top.specs.declared.words.TextCommand.TheVariants.{Encode, Parse, Decode, Help, Version}
+use Rattle.outside.specs.Seen.{source_seen}
+use Rattle.exa_top.specs.declared.words.TextCommand.TheVariants.{Encode, Load, Parse, Decode, Help, Version}
 use Rattle.exa_top.proofs.AnsweredLemmas.{read_none, text_written}
 use Rattle.exa_top.proofs.CheckedLemmas.{ends_later}
 use Rattle.exa_top.proofs.PlayedLemmas.{played_answered}
@@ -30,6 +31,25 @@ returns-in-Play-clause-answered g c =
 
 pub returns-in-Play-clause-plays : goal.returns-in-Play-clause-plays
 returns-in-Play-clause-plays g c = rw c.in-Play.is c.play_over.ensures.plays
+
+pub returns-in-Load-clause-answered : goal.returns-in-Load-clause-answered
+returns-in-Load-clause-answered g c = rw c.in-Load.is (c.load_plain.ensures _ _)
+
+pub returns-in-Load-clause-at_once : goal.returns-in-Load-clause-at_once
+returns-in-Load-clause-at_once g c at_once =
+    absurd (ends_later (g.F.Files.content c.args.files.now) (Load c.in-Load.count) _ _ _ _ _
+    (c.load_plain.ensures _ (source_seen g.S.Source.given g.S.Source.left g.S.Source.ended g.S.Source.faults
+    c.args.input.now)) (λ names. names) at_once)
+
+pub returns-in-Load-clause-unread : goal.returns-in-Load-clause-unread
+returns-in-Load-clause-unread g c is =
+    absurd ((c.load_plain.ensures (g.F.Files.content c.args.files.now) (source_seen g.S.Source.given g.S.Source.left
+    g.S.Source.ended g.S.Source.faults c.args.input.now)).unread is)
+
+pub returns-in-Load-clause-config : goal.returns-in-Load-clause-config
+returns-in-Load-clause-config g c is =
+    absurd ((c.load_plain.ensures (g.F.Files.content c.args.files.now) (source_seen g.S.Source.given g.S.Source.left
+    g.S.Source.ended g.S.Source.faults c.args.input.now)).unread is)
 
 pub returns-in-Parse-clause-answered : goal.returns-in-Parse-clause-answered
 returns-in-Parse-clause-answered g c = rw c.in-Parse.is (c.parse.ensures _)

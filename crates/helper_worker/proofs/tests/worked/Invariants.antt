@@ -1,4 +1,4 @@
 use Rattle.helper_worker.proofs.tests.worked.Given as goal
 
 abbrev pub ghosts-work : goal.ghosts-work
-ghosts-work g a = record { gate = a.gate.now; writer = a.writing.name }
+ghosts-work g a = record { gate = a.gate.now; writer = [] }
