@@ -1,3 +1,4 @@
 pub mod Done
+pub mod Entered
 pub mod Names
 pub mod Runs

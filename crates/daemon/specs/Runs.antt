@@ -1,5 +1,5 @@
 -- What a history says of the workers that made it, by the names of its entries.
-use Rattle.std.specs.Prelude.{ℕ, ◌≡◌, ◌+◌, ◌×◌, ◌⊎◌, ◌<◌, Bool, true, false, List, [], ◌∷◌, ◌++◌, length, reverse, slice_index_or, Contains}
+use Rattle.std.specs.Prelude.{ℕ, ◌≡◌, ◌+◌, ◌×◌, ◌⊎◌, ◌<◌, Bool, true, false, List, [], ◌∷◌, ◌++◌, length, map, reverse, slice_index_or, Contains}
 use Rattle.std.specs.List.{All, flat_map}
 use Rattle.std.specs.declared.option.Option.{Option}
 use Rattle.std.specs.declared.option.Option.TheVariants.{Some, None}
@@ -89,6 +89,14 @@ pub record Devices : Type 0 where
   pub spawning : List Spawning
   pub dialling : List Dialling
   pub faults : ℕ
+
+abbrev pub devices : {S D : Type 0} → (S → Spawning) → (D → Dialling) → Option (ℕ → Bool) → List S → List D → ℕ → Devices
+devices spawning dialling moments helpers peers faults = record {
+  moments = moments;
+  spawning = map spawning helpers;
+  dialling = map dialling peers;
+  faults = faults;
+}
 
 -- what the spawner of a slot tells, and the dialer of one
 abbrev pub spawning_at : Devices → ℕ → Spawning
