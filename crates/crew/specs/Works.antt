@@ -1,6 +1,7 @@
 -- What jobs do.
-use Rattle.std.specs.Prelude.{ℕ, ◌≡◌, ◌<◌, ⊥, Bool, List, [], ◌∷◌, length, slice_index_or, cond}
+use Rattle.std.specs.Prelude.{ℕ, ◌≡◌, ⊥, Bool, List, [], ◌∷◌}
 use Rattle.std.specs.declared.option.Option.{Option}
+use Rattle.outside.specs.Lent.{LendsNone}
 use Rattle.book_history.specs.Entries.Entry.{Stopped}
 use Rattle.pass_entries.specs.Making.{Makes}
 use Rattle.control_worker.specs.Rounds.{Keeps, stop_told}
@@ -11,8 +12,8 @@ use Rattle.peer_worker.specs.Rounds.{Talks, Told as Dialling, stopping}
 use Rattle.crew.specs.declared.worker.Worker.{Worker}
 use Rattle.crew.specs.declared.worker.Worker.TheVariants as worker
 
-module _ {F S D E C P : Type 0} (content : F → Option (List ℕ → List ℕ)) (faults : F → ℕ) (spawning : S → Spawning)
-    (dialling : D → Dialling) (moments : C → Option (ℕ → Bool)) where
+module _ {F S D E C P : Type 0} (content : F → Option (List ℕ → List ℕ)) (faults : F → ℕ) (lent : F → Option ℕ)
+    (spawning : S → Spawning) (dialling : D → Dialling) (moments : C → Option (ℕ → Bool)) where
   -- what a job does, until the daemon is to end
   abbrev pub Works : Worker F S D E C P → Worker F S D E C P → Type 0
   Works (worker.Reading old) (worker.Reading new) =
@@ -23,7 +24,8 @@ module _ {F S D E C P : Type 0} (content : F → Option (List ℕ → List ℕ))
       Talks old.n old.pass (dialling old.dialer) (stopping old.n ∷ []) new.pass (dialling new.dialer) × (new.n ≡ old.n)
   Works (worker.Keeping old) (worker.Keeping new) =
       Keeps (content old.files) old.path.now old.slots old.pass (faults old.files) (stop_told ∷ []) (faults new.files)
-      new.pass × (content new.files ≡ content old.files) × (new.path ≡ old.path) × (new.slots ≡ old.slots)
+      new.pass × (content new.files ≡ content old.files) × LendsNone (lent old.files) (lent new.files)
+      × (new.path ≡ old.path) × (new.slots ≡ old.slots)
   Works _ _ = ⊥
 
 module _ {F S D E C P : Type 0} where

@@ -31,7 +31,7 @@ impl<'g, F: Files, S: Spawner, D: Dialer, E: Ear, C: Clock, P: Pause, N: GateNam
 > {
     /// Does the job, until the daemon is to end.
     pub fn run<R: Wait>(&mut self, rt: &R)
-        ensures { Works F.content F.faults
+        ensures { Works F.content F.faults F.lent
             (λ spawner. told_by (S.children spawner) (S.asked spawner) (S.failed spawner))
             (λ dialer. told (D.links dialer) (D.asked dialer) (D.failed dialer))
             C.moments self.old self.new }

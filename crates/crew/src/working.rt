@@ -1,6 +1,6 @@
 //! Running the jobs.
-ghost use Rattle.std.specs.Prelude.{◌≡◌, length};
-ghost use Rattle.crew.specs.Crews.{EachBecame, Ends};
+ghost use Rattle.std.specs.List.{AllZip};
+ghost use Rattle.crew.specs.Crews.{Ends};
 ghost use Rattle.helper_worker.specs.Rounds.{told as told_by};
 ghost use Rattle.peer_worker.specs.Rounds.{told};
 
@@ -17,7 +17,7 @@ fn end<R: Wait, F: Files, S: Spawner, D: Dialer, E: Ear, C: Clock, P: Pause, N: 
     rt: &R,
     place: &mut Place<Worker<'_, F, S, D, E, C, P, N>>,
 )
-    ensures { Ends F.content F.faults
+    ensures { Ends F.content F.faults F.lent
         (λ spawner. told_by (S.children spawner) (S.asked spawner) (S.failed spawner))
         (λ dialer. told (D.links dialer) (D.asked dialer) (D.failed dialer))
         C.moments place.old place.new }
@@ -40,7 +40,7 @@ fn end_all<
     P: Pause,
     N: GateName + Send,
 >(rt: &R, places: &mut [Place<Worker<'_, F, S, D, E, C, P, N>>])
-    ensures { EachBecame (Ends F.content F.faults
+    ensures { AllZip (Ends F.content F.faults F.lent
         (λ spawner. told_by (S.children spawner) (S.asked spawner) (S.failed spawner))
         (λ dialer. told (D.links dialer) (D.asked dialer) (D.failed dialer))
         C.moments) places.old places.new }
@@ -66,8 +66,7 @@ pub fn work_beside<
     rt: &R,
     mut places: Vec<Place<Worker<'g, F, S, D, E, C, P, N>>>,
 ) -> Vec<Place<Worker<'g, F, S, D, E, C, P, N>>>
-    ensures len { length result.items ≡ length places.entry.items }
-    ensures each { EachBecame (Ends F.content F.faults
+    ensures { AllZip (Ends F.content F.faults F.lent
         (λ spawner. told_by (S.children spawner) (S.asked spawner) (S.failed spawner))
         (λ dialer. told (D.links dialer) (D.asked dialer) (D.failed dialer))
         C.moments) places.entry.items result.items }

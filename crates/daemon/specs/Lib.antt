@@ -1,4 +1,6 @@
 pub mod Done
 pub mod Entered
 pub mod Names
+pub mod Laid
+pub mod Making
 pub mod Runs
