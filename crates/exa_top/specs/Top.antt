@@ -40,7 +40,8 @@ checked_text = codes "ok\n"
 -- what `--help` writes
 abbrev pub help_text : List ℕ
 help_text =
-    codes "usage: exabgpd encode LOCAL_AS PEER_AS LOCAL_IP\n"
+    codes "usage: exabgpd run CONFIG\n" ++ codes "           runs the daemon\n"
+    ++ codes "       exabgpd encode LOCAL_AS PEER_AS LOCAL_IP\n"
     ++ codes "           reads announce and withdraw lines, writes replies and UPDATE messages\n"
     ++ codes "       exabgpd check CONFIG\n"
     ++ codes "           reads a configuration file, writes ok or says what its first fault is\n"

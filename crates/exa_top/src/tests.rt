@@ -7,6 +7,7 @@ use std::test::Fail;
 
 mod checking;
 mod decoding;
+mod loading;
 mod playing;
 mod watching;
 
@@ -196,7 +197,7 @@ fn help_and_version_write_their_texts(rt: HostRuntime) -> Result<(), Fail> {
     assert!(rt;
         help.output
             .as_str()
-            .starts_with("usage: exabgpd encode LOCAL_AS PEER_AS LOCAL_IP\n")
+            .starts_with("usage: exabgpd run CONFIG\n")
     );
     Ok(())
 }

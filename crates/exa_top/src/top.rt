@@ -45,7 +45,9 @@ const CHECKED: &[u8] = b"ok\n";
 const VERSION: &[u8] = b"exabgpd 0.1.0\n";
 
 // What `--help` writes.
-const HELP: &[u8] = b"usage: exabgpd encode LOCAL_AS PEER_AS LOCAL_IP\n\
+const HELP: &[u8] = b"usage: exabgpd run CONFIG\n\
+\x20          runs the daemon\n\
+\x20      exabgpd encode LOCAL_AS PEER_AS LOCAL_IP\n\
 \x20          reads announce and withdraw lines, writes replies and UPDATE messages\n\
 \x20      exabgpd check CONFIG\n\
 \x20          reads a configuration file, writes ok or says what its first fault is\n\
