@@ -36,7 +36,7 @@ fn what_a_load_sends_is_counted(rt: HostRuntime) -> Result<(), Fail> {
 fn a_load_whose_counts_are_not_written_is_a_write_fault(rt: HostRuntime) -> Result<(), Fail> {
     let done = run(rt.alloc(), &["load", "1"], "", &[], &[1])?;
     assert_eq!(rt; done.status, Status::WriteFault);
-    assert_eq!(rt; done.output.as_str(), "routes 1\nlines 2\ndo");
+    assert_eq!(rt; done.output.as_str(), "routes 1\nlines 2\ndon");
     assert_eq!(rt; done.writes_failed, 1);
     Ok(())
 }
