@@ -86,7 +86,16 @@ pub fn make_talker<'g, S, D: Dialer + Drop, E: Ear + Drop, C: Clock + Drop, P: P
 }
 
 // Puts the jobs of a helper slot behind the others.
-fn add_pair<'g, F, S: Spawner + Drop, D, E, C, P, N: GateName>(
+fn add_pair<
+    'g,
+    F: Drop,
+    S: Spawner + Drop,
+    D: Drop,
+    E: Drop,
+    C: Clock + Drop,
+    P: Pause + Drop,
+    N: GateName,
+>(
     places: &mut Vec<Place<Worker<'g, F, S, D, E, C, P, N>>>,
     pair: Pair<'g, S, C, P, N>,
 ) {
@@ -102,7 +111,16 @@ fn add_pair<'g, F, S: Spawner + Drop, D, E, C, P, N: GateName>(
 }
 
 /// The jobs of all helper slots, behind each other.
-pub fn make_helpers<'g, F, S: Spawner + Drop, D, E, C: Clock + Drop, P: Pause + Drop, N: GateName>(
+pub fn make_helpers<
+    'g,
+    F: Drop,
+    S: Spawner + Drop,
+    D: Drop,
+    E: Drop,
+    C: Clock + Drop,
+    P: Pause + Drop,
+    N: GateName,
+>(
     alloc: Global,
     gate: &'g Gate<Book>,
     helpers: usize,
@@ -124,7 +142,7 @@ pub fn make_helpers<'g, F, S: Spawner + Drop, D, E, C: Clock + Drop, P: Pause + 
 /// The jobs of all neighbour slots, behind each other.
 pub fn make_talkers<
     'g,
-    F,
+    F: Drop,
     S: Spawner + Drop,
     D: Dialer + Drop,
     E: Ear + Drop,

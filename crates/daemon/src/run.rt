@@ -28,12 +28,14 @@ use std::sync::Wait;
 use std::thread::Threads;
 
 // What a daemon has left of its gate: its pass, joined with those of all workers, and whether all were run.
+#[derive(Drop)]
 struct Ended {
     last: Pass<Book>,
     all: bool,
 }
 
 // What a run of a configuration leaves: the files, and None where there was no memory and no worker was started.
+#[derive(Drop)]
 struct Over<F> {
     files: F,
     ended: Option<Ended>,
@@ -87,7 +89,7 @@ fn run_config<
     let Some(all) = all else {
         return Over { files, ended: None };
     };
-    join_many(&gate, &mut pass, std::mem::take(&mut stock.passes));
+    join_many(&gate, &mut pass, std::mem::replace(&mut stock.passes, Vec::new(alloc)));
     Over {
         files,
         ended: Some(Ended { last: pass, all }),

@@ -32,7 +32,7 @@ pub fn workers(slots: Slots) -> usize {
 // The jobs of all slots, behind each other.
 fn make_all<
     'g,
-    F,
+    F: Drop,
     S: Spawner + Drop,
     D: Dialer + Drop,
     E: Ear + Drop,
@@ -80,8 +80,8 @@ pub fn run_jobs<
     requires named { gate.now ≡ N.gate }
 {
     let made: Result<Vec<Place<Worker<'g, F, S, D, E, C, P, N>>>, _> = Vec::with_capacity(
-        workers(slots),
         alloc,
+        workers(slots),
     );
     let Ok(mut places) = made else {
         return Left { files, all: None };
