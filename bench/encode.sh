@@ -43,7 +43,7 @@ row() {
   read -r busy kilobytes
   awk -v lines="$1" -v values="$2" -v who="$3" -v none="$4" -v c="$busy" -v k="$kilobytes" -v base="$5" 'BEGIN {
     printf "| %d | %s | %s | %.3f | %.1f | %d | %s |\n", lines, values, who, c, k / 1024, (k - none) * 1024 / lines,
-      base > 0 ? sprintf("%.2f", c / base) : "" }'
+      (base > 0 ? sprintf("%.2f", c / base) : "") }'
   echo "$values $3 $1 $busy" >>"$folder/costs"
 }
 

@@ -1,9 +1,9 @@
 #!/usr/bin/env bash
-# Times `exabgpd play` on a script in which a helper announces routes to four neighbours whose sessions stand, takes its
-XA route is a node at each
-# neighbour, so that a million of them are four million nodes. Beside it runs the same work in C; the outputs have to be
-# the same, byte for byte. Prints a table: processor seconds and the most memory, both of the median of three runs by
-# processor time, the bytes of memory a node, and how often the yardstick's time the program takes.
+# Times `exabgpd play` on a script in which a helper announces routes to four neighbours whose sessions stand, and
+# takes its replies, and each neighbour's messages are cut at the end. A route is a node at each neighbour, so that a
+# million of them are four million nodes. Beside it runs the same work in C; the outputs have to be the same, byte for
+# byte. Prints a table: processor seconds and the most memory, both of the median of three runs by processor time, the
+# bytes of memory a node, and how often the yardstick's time the program takes.
 #
 # usage: bench/play.sh [ROUTES ..]         (100000 1000000 where none are given)
 #        PROGRAM=PATH bench/play.sh        times another build
@@ -56,7 +56,7 @@ row() {
   read -r busy kilobytes
   awk -v nodes="$((4 * $1))" -v who="$2" -v none="$3" -v c="$busy" -v k="$kilobytes" -v base="$4" 'BEGIN {
     printf "| %d | %s | %.3f | %.1f | %d | %s |\n", nodes, who, c, k / 1024, (k - none) * 1024 / nodes,
-      base > 0 ? sprintf("%.2f", c / base) : "" }'
+      (base > 0 ? sprintf("%.2f", c / base) : "") }'
   echo "$2 $1 $busy" >>"$folder/costs"
 }
 
