@@ -3,7 +3,7 @@
  * fit are written, byte for byte as the program writes them. Nothing is proved here.
  *
  * usage: encode <lines >output */
-#include "routes.h"
+#include "table.h"
 
 static struct peer peer;
 

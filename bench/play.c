@@ -3,7 +3,7 @@
  * here.
  *
  * usage: play NEIGHBORS <script >output */
-#include "routes.h"
+#include "table.h"
 
 #define MAX_PEERS 64
 #define MAX_REPLIES 1024
