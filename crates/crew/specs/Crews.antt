@@ -1,5 +1,5 @@
 -- What became of jobs in their places.
-use Rattle.std.specs.Prelude.{ℕ, ◌≡◌, ◌<◌, suc, Bool, true, false, List, [], ◌∷◌}
+use Rattle.std.specs.Prelude.{ℕ, ◌≡◌, ◌<◌, suc, Bool, true, false, List, [], ◌∷◌, length, slice_index_or}
 use Rattle.std.specs.declared.option.Option.{Option}
 use Rattle.helper_worker.specs.Rounds.{Told as Spawning}
 use Rattle.outside.specs.Refusals.{Refusals, is_refused}
@@ -15,6 +15,11 @@ module _ {F S D E C P : Type 0} (content : F → Option (List ℕ → List ℕ))
     pub mark : new.refused ≡ old.refused
     pub runs : old.refused ≡ false → Works content faults lent spawning dialling moments old.worker new.worker
     pub off : old.refused ≡ true → IsOff old.worker new.worker
+
+module _ {J : Type 0} (R : J → J → Type 0) where
+  -- each became what stands in its place
+  abbrev pub EachBecame : List J → List J → Type 0
+  EachBecame old new = (i : ℕ) (d : J) → i < length old → R (slice_index_or old i d) (slice_index_or new i d)
 
 module _ {W : Type 0} where
   -- the same jobs, marked where the plan refuses their numbers, of which the first is k

@@ -1,6 +1,6 @@
 //! Running the jobs.
 ghost use Rattle.std.specs.List.{AllZip};
-ghost use Rattle.crew.specs.Crews.{Ends};
+ghost use Rattle.crew.specs.Crews.{EachBecame, Ends};
 ghost use Rattle.helper_worker.specs.Rounds.{told as told_by};
 ghost use Rattle.peer_worker.specs.Rounds.{told};
 
@@ -30,7 +30,7 @@ fn end<R: Wait, F: Files, S: Spawner, D: Dialer, E: Ear, C: Clock, P: Pause, N: 
 }
 
 // Does each job, or calls it off, all beside each other.
-fn end_all<
+fn end_each<
     R: Threads + Wait + Sync,
     F: Files + Send,
     S: Spawner + Send,
@@ -40,7 +40,7 @@ fn end_all<
     P: Pause,
     N: GateName + Send,
 >(rt: &R, places: &mut [Place<Worker<'_, F, S, D, E, C, P, N>>])
-    ensures { AllZip (Ends F.content F.faults F.lent
+    ensures { EachBecame (Ends F.content F.faults F.lent
         (λ spawner. told_by (S.children spawner) (S.asked spawner) (S.failed spawner))
         (λ dialer. told (D.links dialer) (D.asked dialer) (D.failed dialer))
         C.moments) places.old places.new }
@@ -71,6 +71,6 @@ pub fn work_beside<
         (λ dialer. told (D.links dialer) (D.asked dialer) (D.failed dialer))
         C.moments) places.entry.items result.items }
 {
-    end_all(rt, &mut places);
+    end_each(rt, &mut places);
     places
 }
