@@ -1,2 +1,4 @@
 pub mod Names
+pub mod Laid
+pub mod Making
 pub mod Runs
