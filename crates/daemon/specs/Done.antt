@@ -5,11 +5,10 @@ use Rattle.std.specs.declared.option.Option.{Option}
 use Rattle.outside.specs.Lent.{LendsNone}
 use Rattle.config_model.specs.Sections.{Sections}
 use Rattle.config_model.specs.declared.slots.Slots.{Slots}
-use Rattle.book_gate.specs.Known.{Known, TableId}
-use Rattle.book_gate.specs.Names.{child_name}
+use Rattle.book_gate.specs.Known.{Known}
 use Rattle.book_history.specs.Entries.{Entry}
 use Rattle.book_history.specs.Entries.Entry.{Stopped}
-use Rattle.pass_entries.specs.Making.{Makes, own}
+use Rattle.pass_entries.specs.Making.{Makes}
 use Rattle.control_worker.specs.Rounds.{Keeps, stop_told}
 use Rattle.helper_worker.specs.Handing.{writer_of}
 use Rattle.helper_worker.specs.Rounds.{ReadsOut, Told as Spawning}
@@ -19,19 +18,6 @@ use Rattle.peer_worker.specs.Rounds.{Talks, Told as Dialling, stopping}
 -- what a pass of the book knows
 abbrev pub Pass : Type 0
 Pass = Known Sections Entry
-
--- a pass that was split off a gate's first pass as the one of this number, and made no entry
-pub record IsNew (gate : TableId) (k : ℕ) (pass : Pass) : Type 0 where
-  pub gate_is : pass.gate ≡ gate
-  pub name : pass.name ≡ child_name [] k
-  pub own : own pass ≡ []
-  pub split : pass.split ≡ []
-  pub joined : pass.joined ≡ []
-
--- so many new passes, in order
-pub record AreNew (gate : TableId) (count : ℕ) (passes : List Pass) : Type 0 where
-  pub count_is : length passes ≡ count
-  pub each : (k : ℕ) (q : Pass) → k < count → IsNew gate k (slice_index_or passes k q)
 
 -- a job that isn't refused was run, and one that is was called off
 abbrev pub IfRun : Bool → Type 0 → Type 0 → Type 0

@@ -1,4 +1,5 @@
 pub mod Done
+pub mod Ending
 pub mod Entered
 pub mod Names
 pub mod Laid
