@@ -2,7 +2,7 @@ use Rattle.helper_worker.specs.Rounds.{told as told_by}
 use Rattle.peer_worker.specs.Rounds.{told}
 use Rattle.crew.specs.Crews.{Ends}
 use Rattle.crew.proofs.WorkLemmas.{all_zip_back}
-use Rattle.crew.proofs.working.work_beside.Goals as goal
+use Rattle.crew.proofs.working.end_all.Goals as goal
 
 pub returns : goal.returns
 returns g c =
