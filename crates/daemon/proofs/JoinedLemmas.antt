@@ -19,9 +19,28 @@ use Rattle.book_gate.proofs.ListLemmas.{contains_at}
 use Rattle.book_gate_many.specs.Many.{IsAllJoined, IsMany, child_names, child_of, children_of, joined_with, room_left}
 use Rattle.book_gate_many.proofs.ManyLemmas.{all_back}
 use Rattle.pass_entries.specs.Making.{Makes, own}
-use Rattle.joined.specs.Laws.{AreNew, IsNew, WereMade, OneLaw}
 
 module _ {A E : Type 0} where
+  -- a pass that was split off a gate's first pass as the one of this number, and made no entry
+  pub record IsNew (gate : TableId) (k : ℕ) (pass : Known A E) : Type 0 where
+    pub gate_is : pass.gate ≡ gate
+    pub name : pass.name ≡ child_name [] k
+    pub own : own pass ≡ []
+    pub split : pass.split ≡ []
+    pub joined : pass.joined ≡ []
+
+  -- so many new passes, in order
+  pub record AreNew (gate : TableId) (count : ℕ) (passes : List (Known A E)) : Type 0 where
+    pub count_is : length passes ≡ count
+    pub each : (k : ℕ) (q : Known A E) → k < count → IsNew gate k (slice_index_or passes k q)
+
+  -- each of them made entries
+  abbrev pub WereMade : List (Known A E) → List (Known A E) → Type 0
+  WereMade passes passes' =
+      (length passes' ≡ length passes)
+      × ((k : ℕ) (q : Known A E) → k < length passes
+      → (made : List E) × Makes (slice_index_or passes k q) made (slice_index_or passes' k q))
+
   count_children : (pass : Known A E) (count : ℕ) → length (children_of pass count) ≡ count
   count_children pass zero = refl
   count_children pass (suc count) =
