@@ -1,8 +1,11 @@
 //! Running the jobs.
 ghost use Rattle.std.specs.Prelude.{◌≡◌, false, length, true};
 ghost use Rattle.std.specs.List.{AllZip};
-ghost use Rattle.crew.specs.Crews.{EachBecame, Ends, RefusesNone, RefusesOne, marked};
+ghost use Rattle.crew.specs.Crews.{EachBecame, Ends, RefusesNone, RefusesOne};
+ghost use Rattle.crew.specs.Views.{jobs_of};
+ghost use Rattle.crew.specs.Works.{AllGo};
 ghost use Rattle.helper_worker.specs.Rounds.{told as told_by};
+ghost use Rattle.outside.specs.Refusals.{is_refused};
 ghost use Rattle.outside.specs.Told.{Rose};
 ghost use Rattle.peer_worker.specs.Rounds.{told};
 
@@ -105,10 +108,11 @@ pub fn work<
     plan: &mut CrewPlan<'_>,
     places: Vec<Place<Worker<'g, F, S, D, E, C, P, N>>>,
 ) -> Worked<'g, F, S, D, E, C, P, N>
-    ensures went { AllZip (Ends F.content F.faults F.lent
+    ensures went { AllGo F.content F.faults F.lent
         (λ spawner. told_by (S.children spawner) (S.asked spawner) (S.failed spawner))
         (λ dialer. told (D.links dialer) (D.asked dialer) (D.failed dialer))
-        C.moments) (marked plan.old 0 places.entry.items) result.places.items }
+        C.moments (is_refused plan.old) 0 (jobs_of places.entry.items)
+        (jobs_of result.places.items) }
     ensures all { result.all ≡ true → RefusesNone plan.old (length places.entry.items) }
     ensures one { result.all ≡ false → RefusesOne plan.old (length places.entry.items) }
     ensures refused { plan.new.refused ≡ plan.old.refused }
