@@ -6,6 +6,7 @@ use Rattle.book_gate.specs.declared.name.GateName.{Ghosts as NameGhosts}
 use Rattle.helper_worker.specs.Rounds.{Told as Spawning}
 use Rattle.outside.specs.Refusals.{Refusals, is_refused}
 use Rattle.outside.specs.declared.sink.Sink.{Ghosts as SinkGhosts}
+use Rattle.outside.specs.declared.source.Source.{Ghosts as SourceGhosts}
 use Rattle.outside.specs.declared.spawner.Spawner.{Ghosts as SpawnerGhosts}
 use Rattle.peer_worker.specs.Rounds.{Told as Dialling}
 use Rattle.crew.specs.Crews.{EachBecame, Ends, marked}
@@ -34,7 +35,8 @@ module _ {J : Type 0} (R : J → J → Type 0) where
           ∙ ap (take len) (append-nil new) ∙ take_all len new (le_of_eq (as_long ∙ sym all)) in
       subst (AllZip R old) (sym back) (all_zip_each old new as_long (subst (λ it. EachBecame R it new) same each))
 
-module _ {F S D E C P N K L : Type 0} {s : SpawnerGhosts S K L} {k : SinkGhosts K} {n : NameGhosts N}
+module _ {F S D E C P N O K L : Type 0} {s : SpawnerGhosts S O K L} {o : SourceGhosts O} {k : SinkGhosts K}
+    {n : NameGhosts N}
     (content : F → Option (List ℕ → List ℕ)) (faults : F → ℕ) (lent : F → Option ℕ)
     (spawning : S → Spawning) (dialling : D → Dialling) (moments : C → Option (ℕ → Bool)) where
   -- a job was done or called off, by whether it is refused
@@ -45,13 +47,13 @@ module _ {F S D E C P N K L : Type 0} {s : SpawnerGhosts S K L} {k : SinkGhosts 
   goes_by true old new runs off = off refl
 
   -- what marked jobs became, they became by their numbers
-  pub all_go : (plan : Refusals) (i : ℕ) (olds marks news : List (Place (Worker F S D E C P N K L s k n)))
+  pub all_go : (plan : Refusals) (i : ℕ) (olds marks news : List (Place (Worker F S D E C P N O K L s o k n)))
       → marks ≡ marked plan i olds → AllZip (Ends content faults lent spawning dialling moments) marks news
       → AllGo content faults lent spawning dialling moments (is_refused plan) i (jobs_of olds) (jobs_of news)
   all_go plan i olds marks news is all =
       go plan i olds news (subst (λ it. AllZip (Ends content faults lent spawning dialling moments) it news) is all)
     where
-      go : (plan : Refusals) (i : ℕ) (olds news : List (Place (Worker F S D E C P N K L s k n)))
+      go : (plan : Refusals) (i : ℕ) (olds news : List (Place (Worker F S D E C P N O K L s o k n)))
           → AllZip (Ends content faults lent spawning dialling moments) (marked plan i olds) news
           → AllGo content faults lent spawning dialling moments (is_refused plan) i (jobs_of olds) (jobs_of news)
       go plan i [] [] all = tt

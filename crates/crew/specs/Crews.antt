@@ -6,17 +6,19 @@ use Rattle.outside.specs.Refusals.{Refusals, is_refused}
 use Rattle.peer_worker.specs.Rounds.{Told as Dialling}
 use Rattle.book_gate.specs.declared.name.GateName.{Ghosts as NameGhosts}
 use Rattle.outside.specs.declared.sink.Sink.{Ghosts as SinkGhosts}
+use Rattle.outside.specs.declared.source.Source.{Ghosts as SourceGhosts}
 use Rattle.outside.specs.declared.spawner.Spawner.{Ghosts as SpawnerGhosts}
 use Rattle.crew.specs.declared.place.Place.{Place}
 use Rattle.crew.specs.declared.worker.Worker.{Worker}
 use Rattle.crew.specs.Views.{job_of}
 use Rattle.crew.specs.Works.{IsOff, Works}
 
-module _ {F S D E C P N K L : Type 0} {s : SpawnerGhosts S K L} {k : SinkGhosts K} {n : NameGhosts N}
+module _ {F S D E C P N O K L : Type 0} {s : SpawnerGhosts S O K L} {o : SourceGhosts O} {k : SinkGhosts K}
+    {n : NameGhosts N}
     (content : F → Option (List ℕ → List ℕ)) (faults : F → ℕ) (lent : F → Option ℕ)
     (spawning : S → Spawning) (dialling : D → Dialling) (moments : C → Option (ℕ → Bool)) where
   -- a job was done, or called off where it is refused
-  pub record Ends (old new : Place (Worker F S D E C P N K L s k n)) : Type 0 where
+  pub record Ends (old new : Place (Worker F S D E C P N O K L s o k n)) : Type 0 where
     pub runs : old.refused ≡ false
         → Works content faults lent spawning dialling moments (job_of old.worker) (job_of new.worker)
     pub off : old.refused ≡ true → IsOff (job_of old.worker) (job_of new.worker)
