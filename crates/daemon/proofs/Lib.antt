@@ -1,2 +1,3 @@
+pub mod EnteredLemmas
 pub mod JoinedLemmas
 pub mod RanLemmas
