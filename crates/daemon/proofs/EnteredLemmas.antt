@@ -15,23 +15,25 @@ use Rattle.book_gate.specs.Names.{child_name}
 use Rattle.book_gate.specs.declared.view.Signed.{Signed}
 use Rattle.book_gate.proofs.ListLemmas.{contains_none, contains_here, contains_there, contains_cases}
 use Rattle.book_history.specs.Entries.{Entry}
-use Rattle.book_history.specs.Entries.Entry.{HelperDeaf, HelperGone, LineEntered, PeerAsked, SpawnAsked, Stopped}
+use Rattle.book_history.specs.Entries.Entry.{ControlAsked, HelperDeaf, HelperGone, LineEntered, PeerAsked, Reloaded}
+use Rattle.book_history.specs.Entries.Entry.{ReloadRefused, SpawnAsked, Stopped}
+use Rattle.book_history.specs.declared.outcomes.Control.TheVariants as control
 use Rattle.book_history.specs.declared.outcomes.NotRead.{NotRead}
 use Rattle.book_history.specs.declared.outcomes.Peer.TheVariants as peer
 use Rattle.book_history.specs.declared.outcomes.Spawn.TheVariants as spawn
 use Rattle.book_history.specs.declared.outcomes.Verdict.TheVariants as verdict
-use Rattle.control_worker.specs.Rounds.{IsFiled, stop_told, Round as Keeping, entries_of as kept_by}
+use Rattle.control_worker.specs.Rounds.{IsFiled, due_told, stop_told, Round as Keeping, entries_of as kept_by}
 use Rattle.control_worker.specs.Rounds.Round.{Idle as KeptIdle, Loaded, Refused as NotLoaded}
 use Rattle.helper_worker.specs.Handing.{under, writer_of}
 use Rattle.helper_worker.specs.Lines.{Asked, LineRun, entries_for}
 use Rattle.helper_worker.specs.Replies.{IsReplyOf}
-use Rattle.helper_worker.specs.Rounds.{IsOutcome, IsRound, Outcome, Round as Reading, entries_of as read_by, made_by as made_in}
+use Rattle.helper_worker.specs.Rounds.{IsOutcome, IsRound, Outcome, Told as Spawning, Round as Reading, entries_of as read_by, made_by as made_in}
 use Rattle.helper_worker.specs.Rounds.Outcome.{Heard, Failed}
 use Rattle.helper_worker.specs.Rounds.Round.{Start, Idle as ReadIdle}
 use Rattle.helper_worker.specs.Serving.{IsServed, Served, entries_in}
 use Rattle.peer_worker.specs.Deeds.{Deed, all_entered, entered_by}
 use Rattle.peer_worker.specs.Deeds.Deed.{Say, Rise, Fall, Renew, Carve}
-use Rattle.peer_worker.specs.Rounds.{Round as Talking, entries_of as talked_by, stopping}
+use Rattle.peer_worker.specs.Rounds.{Told as Dialling, Round as Talking, entries_of as talked_by, stopping}
 use Rattle.peer_worker.specs.Rounds.Round.{Visit, Missed, Idle as TalkIdle}
 use Rattle.daemon.specs.Done.{IfRun}
 use Rattle.daemon.specs.Entered.{IsByWorker, IsOfKeeper, IsOfReader, IsOfReplier, IsOfTalker, MayEnter}
@@ -117,11 +119,13 @@ talks_fit n rounds =
 module _ (content : Option (List ℕ → List ℕ)) (path : List ℕ) (slots : Slots) where
   keeping_fits : (round : Keeping) → IsFiled content path slots round
       → All (IsOfKeeper content path slots) (kept_by round)
-  keeping_fits KeptIdle filed = all_one (IsOfKeeper content path slots) _ tt
+  keeping_fits KeptIdle filed = all_one (IsOfKeeper content path slots) (ControlAsked control.Nothing) tt
   keeping_fits (Loaded new given) filed =
-      All-cons (IsOfKeeper content path slots) _ _ tt (all_one (IsOfKeeper content path slots) _ filed)
+      All-cons (IsOfKeeper content path slots) due_told (Reloaded new given ∷ []) tt
+      (all_one (IsOfKeeper content path slots) (Reloaded new given) filed)
   keeping_fits (NotLoaded why) filed =
-      All-cons (IsOfKeeper content path slots) _ _ tt (all_one (IsOfKeeper content path slots) _ filed)
+      All-cons (IsOfKeeper content path slots) due_told (ReloadRefused why ∷ []) tt
+      (all_one (IsOfKeeper content path slots) (ReloadRefused why) filed)
 
   keeps_fit : (rounds : List Keeping) → All (IsFiled content path slots) rounds
       → All (IsOfKeeper content path slots) (flat_map kept_by rounds ++ stop_told ∷ [])
@@ -130,22 +134,29 @@ module _ (content : Option (List ℕ → List ℕ)) (path : List ℕ) (slots : S
       (all_flat (IsOfKeeper content path slots) (IsFiled content path slots) kept_by keeping_fits rounds filed)
       (all_one (IsOfKeeper content path slots) stop_told tt)
 
+-- an entry of a history is one of its entries
+entry_first : (first : Signed Entry) (some : List (Signed Entry)) (made : Signed Entry)
+    → (Contains some made → Contains (entries some) made.entry) → (first ≡ made) ⊎ Contains some made
+    → Contains (entries (first ∷ some)) made.entry
+entry_first first some made others (inl same) =
+    subst (λ (it : Signed Entry). Contains (entries (first ∷ some)) it.entry) same
+    (contains_here first.entry (entries some))
+entry_first first some made others (inr rest) = contains_there first.entry (entries some) made.entry (others rest)
+
+entry_stands : (some : List (Signed Entry)) (made : Signed Entry) → Contains some made
+    → Contains (entries some) made.entry
+entry_stands [] made has = absurd (contains_none made has)
+entry_stands (first ∷ some) made has =
+    entry_first first some made (entry_stands some made) (contains_cases first some made has)
+
 -- an entry under a name is one of those that all fit
 fits_under : (IsOwn : Entry → Type 0) (name : List ℕ) (seen : List (Signed Entry)) (made : Signed Entry)
     (all : List Entry) → made.name ≡ name → Contains seen made → under name seen ≡ all → All IsOwn all
     → IsOwn made.entry
 fits_under IsOwn name seen made all is has are fits =
     All-contains IsOwn (under name seen) made.entry (subst (All IsOwn) (sym are) fits)
-    (subst (λ it. Contains (under it seen) made.entry) is (entry_of (entries_by made.name seen) (stands_by seen made has)))
-  where
-    entry_of : (some : List (Signed Entry)) → Contains some made → Contains (entries some) made.entry
-    entry_of [] has = absurd (contains_none made has)
-    entry_of (first ∷ some) has = of (contains_cases first some made has)
-      where
-        of : (first ≡ made) ⊎ Contains some made → Contains (entries (first ∷ some)) made.entry
-        of (inl same) = subst (λ (it : Signed Entry). Contains (entries (first ∷ some)) it.entry) same
-            (contains_here first.entry (entries some))
-        of (inr rest) = contains_there first.entry (entries some) made.entry (entry_of some rest)
+    (subst (λ it. Contains (under it seen) made.entry) is
+    (entry_stands (entries_by made.name seen) made (stands_by seen made has)))
 
 -- where a worker's entries fit, and it was called off or ran
 runs_fit : (IsOwn : Entry → Type 0) (all : List Entry) → All IsOwn all → All (MayEnter false IsOwn) all
@@ -156,7 +167,7 @@ off_fits IsOwn = all_one (MayEnter true IsOwn) Stopped (inr (refl, refl))
 
 module _ (old new : Devices) (slots : Slots) (content : Option (List ℕ → List ℕ)) (path : List ℕ)
     (seen : List (Signed Entry)) where
-  reader_enters : (h : ℕ) (off : Bool) (was now : _) → IfRun off (ReaderRan h old.moments was now seen)
+  reader_enters : (h : ℕ) (off : Bool) (was now : Spawning) → IfRun off (ReaderRan h old.moments was now seen)
       (IsCalledOff (reader_of h) seen × (now ≡ was))
       → (all : List Entry) × (under (reader_of h) seen ≡ all) × All (MayEnter off (IsOfReader old.moments h)) all
   reader_enters h false was now ran =
@@ -173,7 +184,7 @@ module _ (old new : Devices) (slots : Slots) (content : Option (List ℕ → Lis
       (_, off, All-cons (MayEnter true (IsOfReplier h)) Stopped (HelperDeaf h inc ∷ []) (inr (refl, refl))
       (all_one (MayEnter true (IsOfReplier h)) (HelperDeaf h inc) (inl refl)))
 
-  talker_enters : (n : ℕ) (off : Bool) (was now : _) → IfRun off (TalkerRan slots.helpers n was now seen)
+  talker_enters : (n : ℕ) (off : Bool) (was now : Dialling) → IfRun off (TalkerRan slots.helpers n was now seen)
       (IsCalledOff (talker_of slots.helpers n) seen × (now ≡ was))
       → (all : List Entry) × (under (talker_of slots.helpers n) seen ≡ all) × All (MayEnter off (IsOfTalker n)) all
   talker_enters n false was now ran = (_, ran.made, runs_fit (IsOfTalker n) _ (talks_fit n ran.rounds))

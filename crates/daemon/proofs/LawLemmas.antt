@@ -4,6 +4,7 @@ use Rattle.std.proofs.Common.{List, [], ◌∷◌, ◌++◌, map, length, Option
 use Rattle.std.specs.Prelude.{Contains, min, reverse, slice_index_or, Ok, Err, if◌then◌else◌}
 use Rattle.std.specs.List.{flat_map, list_any}
 use Rattle.std.proofs.Math.Nat.{min-le_left}
+use Rattle.std.proofs.lemmas.Bool.Decides.{nat_tests}
 use Rattle.std.proofs.lemmas.List.{append_assoc, map-append, reverse-append}
 use Rattle.std.proofs.lemmas.List.Concat.{flat_map-append}
 use Rattle.std.proofs.lemmas.List.Folds.{list_any-append}
@@ -13,9 +14,10 @@ use Rattle.config_model.specs.Sections.{Sections}
 use Rattle.config_model.specs.declared.slots.Slots.{Slots}
 use Rattle.outside.specs.Told.{counted}
 use Rattle.book_gate.specs.Calls.{IsLegal}
-use Rattle.book_gate.specs.Histories.{Legal, entries, entries_by}
+use Rattle.book_gate.specs.Histories.{Legal, entries, entries_by, is_name}
 use Rattle.book_gate.specs.Known.{Known}
 use Rattle.book_gate.specs.declared.view.Signed.{Signed}
+use Rattle.book_gate.proofs.HistoryLemmas.{entries-prefix, entries-push}
 use Rattle.book_gate.proofs.ListLemmas.{contains_cases, contains_here, contains_none, contains_there}
 use Rattle.book_history.specs.Entries.{Entry, History}
 use Rattle.book_history.specs.Entries.Entry.{ControlAsked, HelperDeaf, HelperGone, LineEntered, PeerAsked, SpawnAsked}
@@ -28,7 +30,7 @@ use Rattle.book_history.specs.declared.outcomes.NotRead.TheVariants as not_read
 use Rattle.book_history.specs.declared.outcomes.Verdict.TheVariants as verdict
 use Rattle.control_worker.specs.Rounds.{counted_behind, stop_told, Round as Keeping, entries_of as kept_by}
 use Rattle.control_worker.specs.Rounds.Round.{Idle as KeptIdle, Loaded, Refused as NotLoaded}
-use Rattle.helper_worker.specs.Handing.{HasStop, TookNothing, is_stop, under, writer_of}
+use Rattle.helper_worker.specs.Handing.{HasStop, IsAnswered, TookNothing, is_stop, under, writer_of}
 use Rattle.helper_worker.proofs.HandingLemmas.{any_stays, stop_stays}
 use Rattle.helper_worker.proofs.StayLemmas.{answers_stay}
 use Rattle.daemon.specs.Done.{IfRun}
@@ -37,7 +39,7 @@ use Rattle.daemon.specs.Entered.{RoseBy, are_answered, is_shutdown, unread_in}
 use Rattle.daemon.specs.Laws.{IsOfSlot, NoneRefused, RunsAnswer, RunsCount, RunsEnd, RunsEnter, RunsName, RunsReload}
 use Rattle.daemon.specs.Laws.{RunsShutDown, RunsStop}
 use Rattle.daemon.specs.Names.{keeper_of, reader_of, talker_of, workers}
-use Rattle.daemon.specs.Runs.{Devices, IsRun, KeeperRan}
+use Rattle.daemon.specs.Runs.{Devices, IsRun, KeeperRan, ReplierRan}
 use Rattle.daemon.proofs.EnteredLemmas.{by_worker}
 
 pub runs_enter : RunsEnter
@@ -45,19 +47,22 @@ runs_enter refused old new content path slots last run made has =
     by_worker refused old new content path slots last run made has
 
 -- an entry that passes a test
-some_entry : (test : Entry → Bool) (seen : List (Signed Entry)) → list_any test (entries seen) ≡ true
-    → (made : Signed Entry) × Contains seen made × (test made.entry ≡ true)
+abbrev Found : (Entry → Bool) → List (Signed Entry) → Type 0
+Found test seen = (made : Signed Entry) × Contains seen made × (test made.entry ≡ true)
+
+found_first : (test : Entry → Bool) (made : Signed Entry) (seen : List (Signed Entry))
+    → (list_any test (entries seen) ≡ true → Found test seen) → (passes : Bool) → test made.entry ≡ passes
+    → (passes || list_any test (entries seen)) ≡ true → Found test (made ∷ seen)
+found_first test made seen others true is any = (made, contains_here made seen, is)
+found_first test made seen others false is any =
+    let found = others any in (found.0, contains_there made seen found.0 found.1, found.2)
+
+some_entry : (test : Entry → Bool) (seen : List (Signed Entry)) → list_any test (entries seen) ≡ true → Found test seen
 some_entry test [] any = absurd (true≢false (sym any))
-some_entry test (made ∷ seen) any = of (test made.entry) refl any
-  where
-    of : (passes : Bool) → test made.entry ≡ passes → (passes || list_any test (entries seen)) ≡ true
-        → (one : Signed Entry) × Contains (made ∷ seen) one × (test one.entry ≡ true)
-    of true is any = (made, contains_here made seen, is)
-    of false is any = let found = some_entry test seen any in
-        (found.0, contains_there made seen found.0 found.1, found.2)
+some_entry test (made ∷ seen) any = found_first test made seen (some_entry test seen) (test made.entry) refl any
 
 -- no worker's own entry ends the daemon
-reader_no_stop : (moments : _) (h : ℕ) (entry : Entry) → IsOfReader moments h entry → is_stop entry ≡ true → ⊥
+reader_no_stop : (moments : Option (ℕ → Bool)) (h : ℕ) (entry : Entry) → IsOfReader moments h entry → is_stop entry ≡ true → ⊥
 reader_no_stop moments h Stopped own is = own
 reader_no_stop moments h _ own is = true≢false (sym is)
 
@@ -69,7 +74,7 @@ talker_no_stop : (n : ℕ) (entry : Entry) → IsOfTalker n entry → is_stop en
 talker_no_stop n Stopped own is = own
 talker_no_stop n _ own is = true≢false (sym is)
 
-keeper_no_stop : (content : _) (path : List ℕ) (slots : Slots) (entry : Entry) → IsOfKeeper content path slots entry
+keeper_no_stop : (content : Option (List ℕ → List ℕ)) (path : List ℕ) (slots : Slots) (entry : Entry) → IsOfKeeper content path slots entry
     → is_stop entry ≡ true → ⊥
 keeper_no_stop content path slots Stopped own is = own
 keeper_no_stop content path slots _ own is = true≢false (sym is)
@@ -78,10 +83,8 @@ pub runs_stop : RunsStop
 runs_stop refused old new content path slots last run stop =
     of (by_worker refused old new content path slots last run found.0 found.1)
   where
-    found : (made : Signed Entry) × Contains last.seen made × (is_stop made.entry ≡ true)
+    found : Found is_stop last.seen
     found = some_entry is_stop last.seen stop
-    Answer : Type 0
-    Answer = (k : ℕ) × (k < workers slots.helpers slots.peers) × (refused k ≡ true)
     of : IsByWorker refused old.moments content path slots found.0
         → (k : ℕ) × (k < workers slots.helpers slots.peers) × (refused k ≡ true)
     of (inl (h, low, name, inl own)) = absurd (reader_no_stop old.moments h found.0.entry own found.2)
@@ -94,7 +97,7 @@ runs_stop refused old new content path slots last run stop =
     of (inr (inr (inr (name, inr (is, off))))) = (slots.helpers + slots.helpers + slots.peers, omega arith, off)
 
 -- a worker's own entry tells its slot
-reader_slot : (moments : _) (helpers h : ℕ) (name : List ℕ) → name ≡ reader_of h → (entry : Entry)
+reader_slot : (moments : Option (ℕ → Bool)) (helpers h : ℕ) (name : List ℕ) → name ≡ reader_of h → (entry : Entry)
     → IsOfReader moments h entry → IsOfSlot helpers entry name
 reader_slot moments helpers h name is (HelperGone slot inc) own = is ∙ ap reader_of (sym own)
 reader_slot moments helpers h name is (HelperDeaf slot inc) own = absurd own
@@ -115,7 +118,7 @@ talker_slot helpers n name is (HelperDeaf slot inc) own = absurd own
 talker_slot helpers n name is (WentDown slot) own = is ∙ ap (talker_of helpers) (sym own)
 talker_slot helpers n name is _ own = tt
 
-keeper_slot : (content : _) (path : List ℕ) (slots : Slots) (helpers : ℕ) (name : List ℕ) (entry : Entry)
+keeper_slot : (content : Option (List ℕ → List ℕ)) (path : List ℕ) (slots : Slots) (helpers : ℕ) (name : List ℕ) (entry : Entry)
     → IsOfKeeper content path slots entry → IsOfSlot helpers entry name
 keeper_slot content path slots helpers name (HelperGone slot inc) own = absurd own
 keeper_slot content path slots helpers name (HelperDeaf slot inc) own = absurd own
@@ -146,7 +149,7 @@ rounds_answer (KeptIdle ∷ rounds) = rounds_answer rounds
 rounds_answer (Loaded new given ∷ rounds) = rounds_answer rounds
 rounds_answer (NotLoaded why ∷ rounds) = rounds_answer rounds
 
-keeper_answers : (content : _) (path : List ℕ) (slots : Slots) (was now : ℕ) (seen : List (Signed Entry)) (off : Bool)
+keeper_answers : (content : Option (List ℕ → List ℕ)) (path : List ℕ) (slots : Slots) (was now : ℕ) (seen : List (Signed Entry)) (off : Bool)
     → IfRun off (KeeperRan content path slots was now seen)
     ((under (keeper_of slots.helpers slots.peers) seen ≡ Stopped ∷ []) × (now ≡ was))
     → are_answered false (under (keeper_of slots.helpers slots.peers) seen) ≡ true
@@ -158,13 +161,20 @@ runs_reload refused old new content path slots last run =
     keeper_answers content path slots old.faults new.faults last.seen
     (refused (slots.helpers + slots.helpers + slots.peers)) run.keeper
 
+min_step : (before count end now : ℕ) → min (min (before + 1) end + count) end ≤ now
+    → min (before + (count + 1)) end ≤ now
+min_step before count end now below = grind (arith, nat_tests)
+
+min_none : (before end : ℕ) → min (before + 0) end ≤ before
+min_none before end = omega (arith, min-le_left (before + 0) end)
+
 -- a count that rises by one and then by more rises by one more
 rose_more : (count before now : ℕ) → RoseBy count (counted before) now → RoseBy (count + 1) before now
-rose_more count before now rose = ?
+rose_more count before now rose = min_step before count (2 ^ 64 - 1) now rose
 
 rounds_count : (rounds : List Keeping) (before : ℕ)
     → RoseBy (unread_in (flat_map kept_by rounds ++ stop_told ∷ [])) before (counted_behind before rounds)
-rounds_count [] before = ?
+rounds_count [] before = min_none before (2 ^ 64 - 1)
 rounds_count (KeptIdle ∷ rounds) before = rounds_count rounds before
 rounds_count (Loaded new given ∷ rounds) before = rounds_count rounds before
 rounds_count (NotLoaded not_read.ReadFault ∷ rounds) before =
@@ -173,7 +183,7 @@ rounds_count (NotLoaded not_read.ReadFault ∷ rounds) before =
 rounds_count (NotLoaded (not_read.Refused fault) ∷ rounds) before = rounds_count rounds before
 rounds_count (NotLoaded not_read.NoMemory ∷ rounds) before = rounds_count rounds before
 
-keeper_counts : (content : _) (path : List ℕ) (slots : Slots) (was now : ℕ) (seen : List (Signed Entry)) (off : Bool)
+keeper_counts : (content : Option (List ℕ → List ℕ)) (path : List ℕ) (slots : Slots) (was now : ℕ) (seen : List (Signed Entry)) (off : Bool)
     → IfRun off (KeeperRan content path slots was now seen)
     ((under (keeper_of slots.helpers slots.peers) seen ≡ Stopped ∷ []) × (now ≡ was))
     → RoseBy (unread_in (under (keeper_of slots.helpers slots.peers) seen)) was now
@@ -191,21 +201,21 @@ runs_count refused old new content path slots last run =
     (refused (slots.helpers + slots.helpers + slots.peers)) run.keeper
 
 -- a job that isn't refused ran
-ran : {R O : Type 0} (off : Bool) → off ≡ false → IfRun off R O → R
-ran false is run = run
-ran true is run = absurd (true≢false is)
+ran : (R O : Type 0) (off : Bool) → off ≡ false → IfRun off R O → R
+ran R O false is run = run
+ran R O true is run = absurd (true≢false is)
 
 pub runs_end : RunsEnd
 runs_end refused old new content path slots last run none = record {
-  readers = λ h low. let it = ran (refused (h + h)) (none (h + h) (omega arith)) (run.readers h low) in
+  readers = λ h low. let it = ran _ _ (refused (h + h)) (none (h + h) (omega arith)) (run.readers h low) in
       (it.now, (_, it.made));
-  talkers = λ n low. let it = ran (refused (slots.helpers + slots.helpers + n))
+  talkers = λ n low. let it = ran _ _ (refused (slots.helpers + slots.helpers + n))
       (none (slots.helpers + slots.helpers + n) (omega arith)) (run.talkers n low) in (_, it.made);
-  keeper = let it = ran (refused (slots.helpers + slots.helpers + slots.peers))
+  keeper = let it = ran _ _ (refused (slots.helpers + slots.helpers + slots.peers))
       (none (slots.helpers + slots.helpers + slots.peers) (omega arith)) run.keeper in (_, it.made);
 }
 
-no_stop : (refused : ℕ → Bool) (old new : Devices) (content : _) (path : List ℕ) (slots : Slots)
+no_stop : (refused : ℕ → Bool) (old new : Devices) (content : Option (List ℕ → List ℕ)) (path : List ℕ) (slots : Slots)
     (last : Known Sections Entry) → IsRun refused old new content path slots last → NoneRefused refused slots
     → HasStop last.seen → ⊥
 no_stop refused old new content path slots last run none stop =
@@ -239,15 +249,19 @@ any_reverse test (entry ∷ H) any =
     of false false rest any = absurd (true≢false (sym any))
 
 -- where an entry stands
+split_first : (first : Signed Entry) (seen : List (Signed Entry)) (made : Signed Entry)
+    → (Contains seen made → (before : List (Signed Entry)) × IsPrefix (before ++ made ∷ []) seen)
+    → (first ≡ made) ⊎ Contains seen made → (before : List (Signed Entry)) × IsPrefix (before ++ made ∷ []) (first ∷ seen)
+split_first first seen made others (inl is) = ([], (seen, ap (λ (it : Signed Entry). it ∷ seen) (sym is)))
+split_first first seen made others (inr rest) =
+    let found = others rest in
+    (first ∷ found.0, (found.1.0, ap (λ (behind : List (Signed Entry)). first ∷ behind) found.1.1))
+
 split_at : (seen : List (Signed Entry)) (made : Signed Entry) → Contains seen made
     → (before : List (Signed Entry)) × IsPrefix (before ++ made ∷ []) seen
 split_at [] made has = absurd (contains_none made has)
-split_at (first ∷ seen) made has = of (contains_cases first seen made has)
-  where
-    of : (first ≡ made) ⊎ Contains seen made → (before : List (Signed Entry)) × IsPrefix (before ++ made ∷ []) (first ∷ seen)
-    of (inl is) = ([], (seen, ap (λ (it : Signed Entry). it ∷ seen) (sym is)))
-    of (inr rest) = let found = split_at seen made rest in
-        (first ∷ found.0, (found.1.0, ap (λ (behind : List (Signed Entry)). first ∷ behind) found.1.1))
+split_at (first ∷ seen) made has =
+    split_first first seen made (split_at seen made) (contains_cases first seen made has)
 
 any_last : (test : Entry → Bool) (front : List Entry) (last : Entry) → test last ≡ true
     → list_any test (front ++ last ∷ []) ≡ true
@@ -259,28 +273,42 @@ any_last test front last is =
     or_true false true is = refl
     or_true false false is = absurd (true≢false (sym is))
 
+or_late : (a b : Bool) → b ≡ true → (a || b) ≡ true
+or_late true b is = refl
+or_late false b is = is
+
+or_more : (a b c : Bool) → (b ≡ true → c ≡ true) → (a || b) ≡ true → (a || c) ≡ true
+or_more true b c more is = refl
+or_more false b c more is = more is
+
 any_of_under : (test : Entry → Bool) (name : List ℕ) (seen : List (Signed Entry))
     → list_any test (under name seen) ≡ true → list_any test (entries seen) ≡ true
 any_of_under test name [] any = any
-any_of_under test name (made ∷ seen) any = ?
+any_of_under test name (made ∷ seen) any =
+    kept (is_name name made.name) (any_of_under test name seen) any
+  where
+    kept : (here : Bool) → (list_any test (under name seen) ≡ true → list_any test (entries seen) ≡ true)
+        → list_any test (entries (cond here (made ∷ entries_by name seen) (entries_by name seen))) ≡ true
+        → (test made.entry || list_any test (entries seen)) ≡ true
+    kept true others any =
+        or_more (test made.entry) (list_any test (under name seen)) (list_any test (entries seen)) others any
+    kept false others any = or_late (test made.entry) (list_any test (entries seen)) (others any)
 
-is_told : Entry → Bool
+abbrev is_told : Entry → Bool
 is_told (ControlAsked control.Stop) = true
 is_told _ = false
 
 told_is : (entry : Entry) → is_told entry ≡ true → entry ≡ stop_told
-unfolding is_told
 told_is (ControlAsked control.Stop) is = refl
 told_is _ is = absurd (true≢false (sym is))
 
 pub runs_shut_down : RunsShutDown
-unfolding is_told
 runs_shut_down refused old new content path slots last run none =
     (of (stopping_by (reverse (entries before)) stopping), no_stop refused old new content path slots last run none)
   where
     ends : (front : List Entry) × (under (keeper_of slots.helpers slots.peers) last.seen ≡ front ++ stop_told ∷ [])
     ends = (runs_end refused old new content path slots last run none).keeper
-    found : (made : Signed Entry) × Contains last.seen made × (is_told made.entry ≡ true)
+    found : Found is_told last.seen
     found = some_entry is_told last.seen (any_of_under is_told (keeper_of slots.helpers slots.peers) last.seen
         (ap (list_any is_told) ends.1 ∙ any_last is_told ends.0 stop_told refl))
     before : List (Signed Entry)
@@ -288,7 +316,11 @@ runs_shut_down refused old new content path slots last run none =
     front : IsPrefix (before ++ found.0 ∷ []) last.seen
     front = (split_at last.seen found.0 found.1).1
     legal : control.Stop ≡ directed (reverse (entries before))
-    legal = ?
+    legal =
+        subst (λ entry. Allows run.history.legal.0 (reverse (entries before)) entry) (told_is found.0.entry found.2)
+        (run.history.legal.2 (entries before) found.0.entry
+        (subst (λ front. IsPrefix front (entries last.seen)) (entries-push before found.0)
+        (entries-prefix (before ++ found.0 ∷ []) last.seen front)))
     stopping : is_stopping (reverse (entries before)) ≡ true
     stopping = stop_told_when (is_stopping (reverse (entries before))) (is_reload_due (reverse (entries before))) legal
     earlier : IsPrefix before last.seen
@@ -302,9 +334,10 @@ runs_shut_down refused old new content path slots last run none =
 pub runs_answer : RunsAnswer
 runs_answer refused old new content path slots last run none h inc taken faults low back = of back.back
   where
-    served : _
-    served = ran (refused (h + h + 1)) (none (h + h + 1) (omega arith)) (run.repliers h low)
-    of : _ ⊎ (TookNothing taken × HasStop back.before) → _
+    served : ReplierRan h last.seen
+    served = ran _ _ (refused (h + h + 1)) (none (h + h + 1) (omega arith)) (run.repliers h low)
+    of : IsAnswered (writer_of h) h inc taken faults back.before ⊎ (TookNothing taken × HasStop back.before)
+        → IsAnswered (writer_of h) h inc taken faults last.seen
     of (inl answered) = answers_stay (writer_of h) h inc 0 served.last taken faults served.rounds back.before last.seen
         served.good served.rises served.made back.front answered
     of (inr (nothing, stop)) = absurd (no_stop refused old new content path slots last run none
