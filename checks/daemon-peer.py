@@ -12,6 +12,9 @@ standard output, each written at once:
     told CODE/SUB         the daemon sent this NOTIFICATION
     down                  the session's end
     beat MS               so many milliseconds lay between two messages of the daemon; with --beats alone
+
+With --many it holds any number of sessions beside each other, and each line but the first begins with the address that
+was connected to.
 """
 
 import argparse
@@ -21,6 +24,7 @@ import signal
 import socket
 import struct
 import sys
+import threading
 import time
 
 OPEN, UPDATE, NOTIFICATION, KEEPALIVE, REFRESH = 1, 2, 3, 4, 5
@@ -38,7 +42,8 @@ class Ended(Exception):
 
 
 def say(text):
-    print(text, flush=True)
+    sys.stdout.write(f"{text}\n")
+    sys.stdout.flush()
 
 
 def message(kind, body=b""):
@@ -117,6 +122,7 @@ class Session:
 
     def __init__(self, stream, options):
         self.stream, self.options = stream, options
+        self.name = f"{stream.getsockname()[0]} " if options.many else ""
         self.pending = bytearray()
         self.table = {}
         self.counted = None
@@ -124,6 +130,9 @@ class Session:
         self.confirmed = False
         self.hold = options.hold
         self.sent = self.came = time.monotonic()
+
+    def say(self, text):
+        say(f"{self.name}{text}")
 
     def send(self, data):
         self.stream.sendall(data)
@@ -137,8 +146,8 @@ class Session:
                 self.wait()
         except (Ended, OSError) as error:
             if not isinstance(error, Ended):
-                say(f"lost {error}")
-        say("down")
+                self.say(f"lost {error}")
+        self.say("down")
 
     def keep_alive(self):
         if self.confirmed and self.hold and time.monotonic() - self.sent > self.hold / 3:
@@ -158,7 +167,7 @@ class Session:
     def tell_count(self):
         if self.confirmed and len(self.table) != self.counted:
             self.counted = len(self.table)
-            say(f"held {self.counted}")
+            self.say(f"held {self.counted}")
 
     def take_all(self):
         at = 0
@@ -175,7 +184,7 @@ class Session:
     def take(self, kind, body):
         now = time.monotonic()
         if self.options.beats and self.confirmed:
-            say(f"beat {round((now - self.came) * 1000)}")
+            self.say(f"beat {round((now - self.came) * 1000)}")
         self.came = now
         if kind == OPEN:
             self.take_open(body)
@@ -185,7 +194,7 @@ class Session:
             self.take_update(body)
         elif kind == NOTIFICATION:
             self.tell_count()
-            say(f"told {body[0]}/{body[1]}")
+            self.say(f"told {body[0]}/{body[1]}")
             raise Ended
 
     def take_open(self, body):
@@ -195,13 +204,13 @@ class Session:
         self.hold = min(hold, self.options.hold)
         self.paths = self.options.paths and ADD_PATH in offered
         codes = ",".join(str(code) for code in sorted(offered))
-        say(f"open {asn} {hold} {codes}")
+        self.say(f"open {asn} {hold} {codes}")
         self.send(message(KEEPALIVE))
 
     def take_keepalive(self):
         if not self.confirmed:
             self.confirmed = True
-            say("up")
+            self.say("up")
 
     def take_update(self, body):
         (gone,) = struct.unpack_from("!H", body)
@@ -210,12 +219,12 @@ class Session:
         self.withdraw(keys(IPV4, self.paths, body[2 : 2 + gone]))
         self.announce(keys(IPV4, self.paths, body[4 + gone + size :]), found)
         if len(body) == 4:
-            say("eor ipv4")
+            self.say("eor ipv4")
         if MP_UNREACH in found:
             (family,) = struct.unpack_from("!H", found[MP_UNREACH])
             self.withdraw(keys(family, self.paths, found[MP_UNREACH][3:]))
             if len(found[MP_UNREACH]) == 3:
-                say("eor ipv6" if family == IPV6 else "eor other")
+                self.say("eor ipv6" if family == IPV6 else "eor other")
         if MP_REACH in found:
             value = found[MP_REACH]
             (family,) = struct.unpack_from("!H", value)
@@ -225,13 +234,13 @@ class Session:
         for key in prefixes:
             self.table[key] = found
             if self.options.routes:
-                say(f"+ {printed(key)}")
+                self.say(f"+ {printed(key)}")
 
     def withdraw(self, prefixes):
         for key in prefixes:
             self.table.pop(key, None)
             if self.options.routes:
-                say(f"- {printed(key)}")
+                self.say(f"- {printed(key)}")
 
 
 def printed(key):
@@ -239,6 +248,11 @@ def printed(key):
     whole = data.ljust(BITS[family] // 8, b"\0")
     text = f"{ipaddress.ip_address(whole)}/{bits}"
     return f"{text} {path}" if path else text
+
+
+def hear(stream, options):
+    with stream:
+        Session(stream, options).run()
 
 
 def options_of(words):
@@ -251,6 +265,7 @@ def options_of(words):
     parser.add_argument("--families", type=int, nargs="*", default=[IPV4, IPV6])
     parser.add_argument("--paths", action="store_true", help="offer to receive path identifiers")
     parser.add_argument("--extended", action="store_true", help="offer messages of over 4,096 bytes")
+    parser.add_argument("--many", action="store_true", help="hold many sessions at once")
     parser.add_argument("--routes", action="store_true", help="tell each route that comes and goes")
     parser.add_argument("--beats", action="store_true", help="tell the time between messages")
     return parser.parse_args(words)
@@ -259,12 +274,14 @@ def options_of(words):
 def main():
     options = options_of(sys.argv[1:])
     signal.signal(signal.SIGTERM, lambda *_: sys.exit(0))
-    listener = socket.create_server((options.address, options.port), backlog=8)
+    listener = socket.create_server((options.address, options.port), backlog=64)
     say("listening")
     while True:
         stream, _ = listener.accept()
-        with stream:
-            Session(stream, options).run()
+        if options.many:
+            threading.Thread(target=hear, args=(stream, options), daemon=True).start()
+        else:
+            hear(stream, options)
 
 
 main()
