@@ -4,14 +4,15 @@ It speaks just enough of RFC 4271 (OPEN, KEEPALIVE, NOTIFICATION, UPDATE), of RF
 numbers of four bytes), of RFC 7911 (path identifiers) and of RFC 2918 (asking for all routes again). Its lines on
 standard output, each written at once:
 
-    listening             the port is open
+    listening PORT        the port is open; for port 0 one that was free
     open AS HOLD CAPS     the daemon's OPEN: its AS, its hold time, its capabilities' codes
     up                    both KEEPALIVEs were exchanged
     eor FAMILY            an End-of-RIB marker (RFC 4724, section 2)
     held COUNT            so many routes stand, behind what came at one time
     told CODE/SUB         the daemon sent this NOTIFICATION
     down                  the session's end
-    beat MS               so many milliseconds lay between two messages of the daemon; with --beats alone
+    beat MS               so many milliseconds lay between two of the daemon's KEEPALIVEs; with --beats alone
+    + PREFIX, - PREFIX    a route came, or went; with --routes alone
 
 With --many it holds any number of sessions beside each other, and each line but the first begins with the address that
 was connected to.
@@ -129,7 +130,7 @@ class Session:
         self.paths = False
         self.confirmed = False
         self.hold = options.hold
-        self.sent = self.came = time.monotonic()
+        self.sent = self.beat = time.monotonic()
 
     def say(self, text):
         say(f"{self.name}{text}")
@@ -182,10 +183,6 @@ class Session:
         del self.pending[:at]
 
     def take(self, kind, body):
-        now = time.monotonic()
-        if self.options.beats and self.confirmed:
-            self.say(f"beat {round((now - self.came) * 1000)}")
-        self.came = now
         if kind == OPEN:
             self.take_open(body)
         elif kind == KEEPALIVE:
@@ -208,9 +205,13 @@ class Session:
         self.send(message(KEEPALIVE))
 
     def take_keepalive(self):
+        now = time.monotonic()
         if not self.confirmed:
             self.confirmed = True
             self.say("up")
+        elif self.options.beats:
+            self.say(f"beat {round((now - self.beat) * 1000)}")
+        self.beat = now
 
     def take_update(self, body):
         (gone,) = struct.unpack_from("!H", body)
@@ -267,7 +268,7 @@ def options_of(words):
     parser.add_argument("--extended", action="store_true", help="offer messages of over 4,096 bytes")
     parser.add_argument("--many", action="store_true", help="hold many sessions at once")
     parser.add_argument("--routes", action="store_true", help="tell each route that comes and goes")
-    parser.add_argument("--beats", action="store_true", help="tell the time between messages")
+    parser.add_argument("--beats", action="store_true", help="tell the time between KEEPALIVEs")
     return parser.parse_args(words)
 
 
@@ -275,7 +276,7 @@ def main():
     options = options_of(sys.argv[1:])
     signal.signal(signal.SIGTERM, lambda *_: sys.exit(0))
     listener = socket.create_server((options.address, options.port), backlog=64)
-    say("listening")
+    say(f"listening {listener.getsockname()[1]}")
     while True:
         stream, _ = listener.accept()
         if options.many:
