@@ -68,7 +68,8 @@ heard_apart law (Some content) path slots config are at heard told =
     heard_none none.0 (subst HasHelper same heard) none.2
 
 -- a file that is a configuration isn't refused
-not_refused : FilesGiveOne → FilesDoOne → (content : Option (List ℕ → List ℕ)) (command : TextCommand) (fault : ConfigFault)
+not_refused : FilesGiveOne → FilesDoOne → (content : Option (List ℕ → List ℕ)) (command : TextCommand) (fault :
+    ConfigFault)
     → IsRefusedFor content command fault → HasConfig content command → ⊥
 not_refused one law content (Encode path) fault (slots, are, inl at) good =
     config_apart law content path.now slots fault are at (told_heard content path.now good)
@@ -94,7 +95,8 @@ fault_apart law (Some content) path slots config fault are at told =
     law (content path) slots config fault (subst Good (sym at.are) at.configures) (told slots are)
 
 -- a file that has a fault is no configuration
-not_configured : FilesGiveOne → FilesDoOne → (content : Option (List ℕ → List ℕ)) (command : TextCommand) (fault : ConfigFault)
+not_configured : FilesGiveOne → FilesDoOne → (content : Option (List ℕ → List ℕ)) (command : TextCommand) (fault :
+    ConfigFault)
     → IsConfigured content command → HasFault content command fault → ⊥
 not_configured one law content (Encode path) fault (config, slots, are, at, heard) (inl told) =
     fault_apart law content path.now slots config fault are at told
@@ -131,7 +133,8 @@ told_unheard None path told = told
 told_unheard (Some content) path told = λ slots are. ((told slots are).0, (told slots are).1)
 
 -- a file is refused for its one first fault
-refused_once : FilesDoOne → FilesFaultOnce → (content : Option (List ℕ → List ℕ)) (command : TextCommand) (fault other : ConfigFault)
+refused_once : FilesDoOne → FilesFaultOnce → (content : Option (List ℕ → List ℕ)) (command : TextCommand) (fault other :
+    ConfigFault)
     → IsRefusedFor content command other → HasFault content command fault → other ≡ fault
 refused_once apart law content (Encode path) fault other (slots, are, inl at) (inl told) =
     fault_once law content path.now slots fault other are at told
@@ -177,7 +180,8 @@ ran_configured content command source source' sink sink' ran =
     whole_is_configured content command source source' ran.input ran.read
 
 -- a command whose file has a first fault, and whose files didn't fail
-pub refuses_it : FilesGiveOne → FilesDoOne → FilesFaultOnce → (content : Option (List ℕ → List ℕ)) (command : TextCommand)
+pub refuses_it : FilesGiveOne → FilesDoOne → FilesFaultOnce → (content : Option (List ℕ → List ℕ)) (command :
+    TextCommand)
     (source source' : SourceSeen) (sink sink' : SinkSeen) (fault : ConfigFault) (ends : Status)
     → Answered content command source source' sink sink' ends → HasFault content command fault
     → ¬ (ends ≡ status.ConfigRead) → (ends ≡ status.ConfigRefused fault) ⊎ (ends ≡ status.NoMemory)
@@ -190,15 +194,18 @@ refuses_it one apart once content command source source' sink sink' fault status
     absurd (config refl)
 refuses_it one apart once content command source source' sink sink' fault (status.ConfigRefused other) answered told
     config =
-    inl (ap status.ConfigRefused (refused_once apart once content command fault other (answered.refused other refl) told))
+    inl (ap status.ConfigRefused (refused_once apart once content command fault other (answered.refused other refl)
+        told))
 refuses_it one apart once content command source source' sink sink' fault status.ReadFault answered told config =
     absurd (not_configured one apart content command fault (answered.late tt) told)
 refuses_it one apart once content command source source' sink sink' fault status.WriteFault answered told config =
     absurd (not_configured one apart content command fault (answered.late tt) told)
-refuses_it one apart once content command source source' sink sink' fault status.NoMemory answered told config = inr refl
+refuses_it one apart once content command source source' sink sink' fault status.NoMemory answered told config = inr
+    refl
 refuses_it one apart once content command source source' sink sink' fault status.InputLong answered told config =
     absurd (not_configured one apart content command fault (answered.late tt) told)
-refuses_it one apart once content command source source' sink sink' fault (status.ScriptRefused line) answered told config =
+refuses_it one apart once content command source source' sink sink' fault (status.ScriptRefused line) answered told
+    config =
     absurd (not_configured one apart content command fault (answered.late tt) told)
 refuses_it one apart once content command source source' sink sink' fault status.NoCrew answered told config =
     absurd (answered.crew refl)
@@ -214,22 +221,29 @@ pub completed : FilesGiveOne → FilesDoOne → (content : Option (List ℕ → 
     → (ends ≡ status.Ok) ⊎ (ends ≡ status.NoMemory)
 completed one law content command source source' sink sink' status.Ok answered good script short config read write =
     inl refl
-completed one law content command source source' sink sink' status.NoMemory answered good script short config read write =
+completed one law content command source source' sink sink' status.NoMemory answered good script short config read write
+    =
     inr refl
 completed one law content command source source' sink sink' status.Usage answered good script short config read write =
     absurd (answered.spelled refl)
-completed one law content command source source' sink sink' status.ConfigRead answered good script short config read write =
+completed one law content command source source' sink sink' status.ConfigRead answered good script short config read
+    write =
     absurd (config refl)
-completed one law content command source source' sink sink' (status.ConfigRefused fault) answered good script short config
+completed one law content command source source' sink sink' (status.ConfigRefused fault) answered good script short
+    config
     read write =
     absurd (not_refused one law content command fault (answered.refused fault refl) good)
-completed one law content command source source' sink sink' status.ReadFault answered good script short config read write =
+completed one law content command source source' sink sink' status.ReadFault answered good script short config read
+    write =
     absurd (read (counts_rose source.faults source'.faults (answered.read refl)))
-completed one law content command source source' sink sink' status.WriteFault answered good script short config read write =
+completed one law content command source source' sink sink' status.WriteFault answered good script short config read
+    write =
     absurd (write (counts_rose sink.faults sink'.faults (answered.write refl)))
-completed one law content command source source' sink sink' status.InputLong answered good script short config read write =
+completed one law content command source source' sink sink' status.InputLong answered good script short config read
+    write =
     absurd (left_short input_limit source.left (short (answered.reads refl)) (answered.long refl).left)
-completed one law content command source source' sink sink' (status.ScriptRefused line) answered good script short config
+completed one law content command source source' sink sink' (status.ScriptRefused line) answered good script short
+    config
     read write =
     absurd (line_apart content command source.left (answered.bad line refl) script)
 completed one law content command source source' sink sink' status.NoCrew answered good script short config read write =

@@ -33,7 +33,8 @@ use Rattle.exa_top.specs.declared.words.TextCommand.TheVariants.{Help, Version}
 use Rattle.exa_top.specs.Encoded.{EncodesFile, EncodesHeard, IsEncoded, IsEncodedOver, IsEncodedPart, IsHeardAt}
 use Rattle.exa_top.specs.Encoded.{IsUnencoded, IsUnheardAt, IsWithin, no_process, plain_of}
 use Rattle.exa_top.specs.Plain.{plain_sections}
-use Rattle.exa_top.specs.Top.{input_limit, Answered, Broke, EncodesIts, EndsAtOnce, IsConfigured, IsOutput, IsPartOutput}
+use Rattle.exa_top.specs.Top.{input_limit, Answered, Broke, EncodesIts, EndsAtOnce}
+use Rattle.exa_top.specs.Top.{IsConfigured, IsOutput, IsPartOutput}
 use Rattle.exa_top.specs.Top.{Ran, ReadPart, ReadToEnd, ReadsInput, ReadsPart, ReadsWhole}
 use Rattle.exa_top.specs.Words.{IsCommand, IsEncode}
 use Rattle.exa_top.proofs.AnsweredLemmas.{few_given, nothing_written, read_none, stopped, untouched_is_few}
@@ -359,7 +360,8 @@ pub plain_answered : (content : Option (List ℕ → List ℕ)) (ends_of : Ends)
     (sink sink' : SinkSeen) (ends : Status) → Encodes (plain_of ends_of) source source' sink sink' ends
     → Answered content (EncodePlain ends_of) source source' sink sink' ends
 plain_answered content ends_of source source' sink sink' ends encodes =
-    encoder_answered content (EncodePlain ends_of) (plain_of ends_of) (plain_encoder content ends_of) source source' sink
+    encoder_answered content (EncodePlain ends_of) (plain_of ends_of) (plain_encoder content ends_of) source source'
+        sink
     sink' ends encodes
 
 -- a file that is a configuration without a process

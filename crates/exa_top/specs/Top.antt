@@ -49,7 +49,7 @@ help_text =
     ++ codes "       exabgpd play CONFIG\n"
     ++ codes "           reads a script of events, writes what each is answered\n"
     ++ codes "       exabgpd load COUNT\n"
-    ++ codes "           announces so many routes to one neighbour, withdraws each second one, writes nine counts\n"
+    ++ codes "           announces so many routes, withdraws each second one, writes nine counts\n"
     ++ codes "       exabgpd parse\n"
     ++ codes "           reads command lines, writes for each whether it reads or where its first fault is\n"
     ++ codes "       exabgpd decode CAP ..\n"
@@ -194,8 +194,8 @@ pub record ReadNothing (source source' : SourceSeen) (bytes : List ℕ) : Type 0
   pub same : source' ≡ source
   pub none : bytes ≡ []
 
--- what a command reads that ends well: `encode`, `check` and `play` their file, and all but `check`, `load`, `--help` and `--version`
--- the whole of their input
+-- what a command reads that ends well: `encode`, `check` and `play` their file, and all but `check`, `load`, `--help`
+-- and `--version` the whole of their input
 abbrev pub ReadsWhole : Option (List ℕ → List ℕ) → TextCommand → SourceSeen → SourceSeen → List ℕ → Type 0
 ReadsWhole content (Encode path) source source' bytes =
     ReadToEnd source source' bytes × IsConfigured content (Encode path)

@@ -57,7 +57,7 @@ const HELP: &[u8] = b"usage: exabgpd run CONFIG\n\
 \x20      exabgpd play CONFIG\n\
 \x20          reads a script of events, writes what each is answered\n\
 \x20      exabgpd load COUNT\n\
-\x20          announces so many routes to one neighbour, withdraws each second one, writes nine counts\n\
+\x20          announces so many routes, withdraws each second one, writes nine counts\n\
 \x20      exabgpd parse\n\
 \x20          reads command lines, writes for each whether it reads or where its first fault is\n\
 \x20      exabgpd decode CAP ..\n\

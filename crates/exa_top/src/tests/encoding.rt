@@ -14,7 +14,8 @@ const FILES: [HeldFile<'static>; 3] = [
     },
     HeldFile {
         path: "none.conf",
-        content: b"neighbor 192.0.2.2 { local-address 192.0.2.9; local-as 65001; peer-as 65002; }\n",
+        content: b"neighbor 192.0.2.2 { local-address 192.0.2.9;\n\
+            local-as 65001; peer-as 65002; }\n",
     },
     HeldFile {
         path: "wrong.conf",
