@@ -11,6 +11,7 @@ use Rattle.text_forms.specs.Addresses.{IsIpv4}
 use Rattle.text_forms.specs.Numbers.{IsAsn}
 use Rattle.line_cutter.proofs.UnfinishedLemmas.{lines_stay}
 use Rattle.config_model.specs.declared.fault.ConfigFault.{ConfigFault}
+use Rattle.config_model.specs.declared.sections.Neighbor.{Neighbor}
 use Rattle.config_model.specs.declared.slots.Slots.{Slots}
 use Rattle.config_model.specs.Sections.{Sections}
 use Rattle.book_history.specs.Entries.{History}
@@ -66,7 +67,7 @@ no_slots : (config : Sections) (bytes : List ℕ) (history : History) (begins : 
     → begins.slots ≡ [] → IsWithin history begins.answered
 no_slots config bytes history begins none =
     let cuts : begins.more ++ history ≡ begins.answered =
-    subst (λ (slots : List _). Adding AddsCuts begins.answered slots (begins.more ++ history)) none begins.cuts in
+    subst (λ (slots : List (ℕ × Neighbor)). Adding AddsCuts begins.answered slots (begins.more ++ history)) none begins.cuts in
     (begins.more, sym cuts)
 
 -- ---- commands
