@@ -38,7 +38,7 @@ const ROUTE: Child<'static> = Child {
 };
 
 // A helper that ends the daemon at once.
-const ENDS: Child<'static> = Child {
+pub const ENDS: Child<'static> = Child {
     lines: b"shutdown\n",
     giving: FREE,
     ..SILENT
@@ -240,3 +240,38 @@ pub const CASES: [Case<'static>; 10] = [
         ..BASE
     },
 ];
+
+// A helper that says a part of a line, and is gone. A neighbour is then sent no route.
+pub const CUT: Case<'static> = Case {
+    why: "a line that isn't ended is none",
+    first: Child {
+        next: b"",
+        ..ENDS
+    },
+    second: ENDS_BEHIND_NONE,
+    giving: Way {
+        held: (0, Count::Ended, 1),
+        ..FREE
+    },
+    ..BASE
+};
+
+// A helper that takes no reply until it has said all its lines.
+pub const STILL: Case<'static> = Case {
+    why: "each line is answered in the end",
+    first: Child {
+        next: b"",
+        taking: Way {
+            held: (0, Count::Gave, 4_400),
+            ..FREE
+        },
+        ..ENDS
+    },
+    second: ENDS_BEHIND_NONE,
+    giving: Way {
+        held: (0, Count::Took, 5_500),
+        ..FREE
+    },
+    replies: [("done\n", 1_100), ("done\n", 1)],
+    ..BASE
+};

@@ -283,7 +283,7 @@ fn see_replies(
 }
 
 // What a helper's first child took, as far as it is told.
-fn took<'w>(world: &'w Devices<'_>, h: usize) -> &'w [u8] {
+pub fn took<'w>(world: &'w Devices<'_>, h: usize) -> &'w [u8] {
     let Some(helper) = world.helpers.get(h) else {
         return &[];
     };
@@ -297,7 +297,7 @@ fn took<'w>(world: &'w Devices<'_>, h: usize) -> &'w [u8] {
 }
 
 // The links that have ended.
-fn links<'w, 'a>(world: &'w Devices<'a>) -> &'w [MemoryLink<'a>] {
+pub fn links<'w, 'a>(world: &'w Devices<'a>) -> &'w [MemoryLink<'a>] {
     let Some(peer) = world.peers.first() else {
         return &[];
     };
