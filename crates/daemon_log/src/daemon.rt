@@ -16,7 +16,7 @@ pub const VERSION: &str = "0.1.0";
 // Puts what befalls the daemon.
 pub fn put_daemon(event: DaemonEvent<'_>, out: &mut Text)
     requires { array_vec_len out.old ≡ 0 }
-    ensures { out.new.items ≡ out.old.items ++ daemon_text event }
+    ensures { out.new.items ≡ out.old.items ++ daemon_text event.entry }
 {
     match event {
         DaemonEvent::Starts { path } => {

@@ -15,7 +15,7 @@ use text_forms::{Line, put_u32, put_u64};
 // Puts what befalls the helper of a slot.
 pub fn put_helper(slot: usize, event: HelperEvent<'_>, out: &mut Text)
     requires { array_vec_len out.old ≡ 0 }
-    ensures { out.new.items ≡ out.old.items ++ helper_text slot event }
+    ensures { out.new.items ≡ out.old.items ++ helper_text slot event.entry }
 {
     put(b"helper ", out);
     put_u64(slot as u64, out);
@@ -51,7 +51,7 @@ fn put_run(words: &[u8], inc: u64, run: &[u8], out: &mut Text)
 // Puts why a line is refused, and its front.
 fn put_refused(line: Line<'_>, why: Why, out: &mut Text)
     requires { array_vec_len out.old + 300 ≤ REPORT_ROOM }
-    ensures { out.new.items ≡ out.old.items ++ refused_text (line_told line) why }
+    ensures { out.new.items ≡ out.old.items ++ refused_text (line_told line.entry) why }
 {
     put(b" line refused, ", out);
     put_cause(why, out);

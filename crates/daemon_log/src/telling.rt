@@ -26,11 +26,17 @@ pub fn put_report(report: &Report<'_>, out: &mut Text)
 }
 
 /// Logs a report as one record. Nothing is promised of what becomes of it.
-pub fn tell<R: Log>(rt: &R, report: Report<'_>) {
+pub fn tell<R: Log>(rt: &R, report: &Report<'_>) {
     let mut text = Text::new();
-    put_report(&report, &mut text);
-    if let Ok(text) = str::from_utf8(&text) {
-        log!(rt; target: TARGET, level_of(&report), "{text}");
+    put_report(report, &mut text);
+    say(rt, level_of(report), &text);
+}
+
+// Logs a text. All texts are ASCII.
+fn say<R: Log>(rt: &R, level: Level, text: &[u8]) {
+    match str::from_utf8(text) {
+        Ok(text) => log!(rt; target: TARGET, level, "{text}"),
+        Err(_) => {}
     }
 }
 
