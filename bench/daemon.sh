@@ -166,10 +166,11 @@ idle_row() {
 who=(C)
 if [ ! -x "$program" ]; then
   echo "exabgpd isn't built: $program"
-elif ! "$program" --help | grep -q 'exabgpd run'; then
-  echo "exabgpd has no command run"
 else
-  who=(C exabgpd)
+  # A file that isn't there ends the command with status 3, and a command that isn't there ends with status 2.
+  status=0
+  "$program" run "$folder/none" 2>"$folder/log" || status=$?
+  if [ "$status" = 3 ]; then who=(C exabgpd); else echo "exabgpd has no command run"; fi
 fi
 if [[ $parts == *rate* ]]; then
   echo "| program | routes | how | routes a second | processor seconds | MB | bytes a route |"
