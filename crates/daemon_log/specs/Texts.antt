@@ -60,12 +60,16 @@ abbrev pub family_text : Caps → Family → List ℕ → List ℕ → List ℕ
 family_text caps family word path =
     if has_path caps family then path else if has_family caps family then word else []
 
+-- whether messages may be long
+abbrev pub extended_text : Caps → List ℕ
+extended_text caps = if caps.extended then codes " extended" else []
+
 -- what a session carries, each word behind a space
 abbrev pub caps_text : Caps → List ℕ
 caps_text caps =
     family_text caps family.Ipv4 (codes " ipv4") (codes " ipv4-path")
     ++ (family_text caps family.Ipv6 (codes " ipv6") (codes " ipv6-path")
-    ++ (if caps.extended then codes " extended" else []))
+    ++ extended_text caps)
 
 -- which NOTIFICATION it was, as CODE/SUBCODE NAME
 abbrev pub notification_text : ℕ → ℕ → List ℕ

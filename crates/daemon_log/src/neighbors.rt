@@ -1,7 +1,7 @@
 //! What befalls a neighbour.
 ghost use Rattle.std.specs.Prelude.{◌≡◌, ◌+◌, ◌≤◌, ◌++◌, codes, decimal, length};
 ghost use Rattle.arrayvec.specs.ArrayVec.{array_vec_len};
-ghost use Rattle.daemon_log.specs.Texts.{caps_text, ending_text, family_text, neighbor_text, notification_text};
+ghost use Rattle.daemon_log.specs.Texts.{caps_text, ending_text, extended_text, family_text, neighbor_text, notification_text};
 
 use crate::names::name_of;
 use crate::putting::{REPORT_ROOM, Text, put};
@@ -44,12 +44,21 @@ fn put_up(caps: &Caps, hold: u16, out: &mut Text)
     put(b" up", out);
     put_family(caps, Family::Ipv4, b" ipv4", b" ipv4-path", out);
     put_family(caps, Family::Ipv6, b" ipv6", b" ipv6-path", out);
-    if caps.extended() {
-        put(b" extended", out);
-    }
+    put_extended(caps, out);
     put(b", hold time ", out);
     put_u32(u32::from(hold), out);
     put(b" s", out);
+}
+
+// Puts whether messages may be long (RFC 8654).
+fn put_extended(caps: &Caps, out: &mut Text)
+    requires { array_vec_len out.old + 9 ≤ REPORT_ROOM }
+    ensures text { out.new.items ≡ out.old.items ++ extended_text caps.now }
+    ensures short { array_vec_len out.new ≤ array_vec_len out.old + 9 }
+{
+    if caps.extended() {
+        put(b" extended", out);
+    }
 }
 
 // Puts a family that is carried by its word, and by another one where it has path identifiers.
