@@ -1,5 +1,5 @@
 -- How the daemon's jobs are made, from the last to the first, of the last of each list of a stock.
-use Rattle.std.specs.Prelude.{ℕ, ◌≡◌, ◌×◌, List, [], ◌∷◌, ◌++◌, length, map, reverse}
+use Rattle.std.specs.Prelude.{ℕ, ◌≡◌, List, [], ◌∷◌, ◌++◌, length, map, reverse}
 use Rattle.std.specs.Vec.{vec_capacity}
 use Rattle.config_model.specs.Sections.{Sections}
 use Rattle.book_gate.specs.Known.{Known}

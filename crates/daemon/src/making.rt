@@ -1,5 +1,5 @@
 //! Making the jobs, from the last to the first.
-ghost use Rattle.std.specs.Prelude.{◌≡◌, ◌<◌, ◌≤◌, ◌+◌, ◌×◌, ⊤, IfErr, IfOk, OnErr, OnOk, length};
+ghost use Rattle.std.specs.Prelude.{◌≡◌, ◌<◌, ◌≤◌, ◌+◌, IfErr, IfOk, OnErr, OnOk, length};
 ghost use Rattle.config_model.specs.Limits.{max_helpers, max_peers};
 ghost use Rattle.daemon.specs.Laid.{
     AreFresh, HasRoom, HaveSame, IsFull, IsLaid, IsUsedUp, workers_of
