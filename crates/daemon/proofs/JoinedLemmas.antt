@@ -130,7 +130,7 @@ module _ {A E : Type 0} where
 
 module _ {E : Type 0} where
   -- an entry stands among those of its name
-  stands_by : (seen : List (Signed E)) (made : Signed E) → Contains seen made → Contains (entries_by made.name seen) made
+  pub stands_by : (seen : List (Signed E)) (made : Signed E) → Contains seen made → Contains (entries_by made.name seen) made
   stands_by [] made has = absurd (contains_none made has)
   stands_by (first ∷ seen) made has =
       ⊎_elim (λ (is : first ≡ made). subst (λ (it : Signed E). Contains (entries_by it.name (first ∷ seen)) it) is

@@ -32,7 +32,7 @@ use Rattle.daemon.specs.Runs.{TalkerRan, devices, dialling_at, spawning_at}
 use Rattle.daemon.proofs.JoinedLemmas.{WereMade, AreNew, all_legal, all_named, are_new, made_by, same_start}
 
 -- a number of a job is that of a reader, a replier, a talker or the keeper
-abbrev Which : ℕ → ℕ → ℕ → Type 0
+abbrev pub Which : ℕ → ℕ → ℕ → Type 0
 Which helpers peers k =
     ((h : ℕ) × (h < helpers) × (k ≡ h + h)) ⊎ ((h : ℕ) × (h < helpers) × (k ≡ h + h + 1))
     ⊎ ((n : ℕ) × (n < peers) × (k ≡ helpers + helpers + n)) ⊎ (k ≡ helpers + helpers + peers)
