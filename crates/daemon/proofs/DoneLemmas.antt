@@ -25,7 +25,7 @@ OfTalker dialling refused helpers n = TalkerDone dialling (refused (helpers + he
 module _ {F S D E C : Type 0} (content : F → Option (List ℕ → List ℕ)) (faults : F → ℕ) (lent : F → Option ℕ)
     (spawning : S → Spawning) (dialling : D → Dialling) (moments : C → Option (ℕ → Bool)) where
   -- what goes is of the same kind afterwards
-  goes_alike : (off : Bool) (old new : Job F S D E C)
+  pub goes_alike : (off : Bool) (old new : Job F S D E C)
       → Goes content faults lent spawning dialling moments off old new → IsAlike old new
   goes_alike false (Reads _ _ _ _) (Reads _ _ _ _) go = tt
   goes_alike false (Replies _ _ _) (Replies _ _ _) go = tt
@@ -47,7 +47,7 @@ module _ {F S D E C : Type 0} (content : F → Option (List ℕ → List ℕ)) (
       (goes_alike (refused i) old new go.0, all_alike refused (suc i) olds news go.1)
 
   -- what a reader is afterwards
-  record ReaderEnded (off : Bool) (h : ℕ) (spawner : S) (clock : C) (pass : Pass) (new : Job F S D E C) : Type 0 where
+  pub record ReaderEnded (off : Bool) (h : ℕ) (spawner : S) (clock : C) (pass : Pass) (new : Job F S D E C) : Type 0 where
     pub slot : ℕ
     pub spawner' : S
     pub clock' : C
@@ -55,7 +55,7 @@ module _ {F S D E C : Type 0} (content : F → Option (List ℕ → List ℕ)) (
     pub is : new ≡ Reads slot spawner' clock' later
     pub done : ReaderDone spawning off h (moments clock) spawner spawner' pass later
 
-  reader_ended : (off : Bool) (h : ℕ) (spawner : S) (clock : C) (pass : Pass) (new : Job F S D E C)
+  pub reader_ended : (off : Bool) (h : ℕ) (spawner : S) (clock : C) (pass : Pass) (new : Job F S D E C)
       → Goes content faults lent spawning dialling moments off (Reads h spawner clock pass) new
       → ReaderEnded off h spawner clock pass new
   reader_ended false h spawner clock pass (Reads slot spawner' clock' later) go =
@@ -66,14 +66,14 @@ module _ {F S D E C : Type 0} (content : F → Option (List ℕ → List ℕ)) (
   reader_ended true h spawner clock pass _ go = absurd go
 
   -- what a replier is afterwards
-  record ReplierEnded (off : Bool) (h : ℕ) (pass : Pass) (new : Job F S D E C) : Type 0 where
+  pub record ReplierEnded (off : Bool) (h : ℕ) (pass : Pass) (new : Job F S D E C) : Type 0 where
     pub slot : ℕ
     pub last : ℕ
     pub later : Pass
     pub is : new ≡ Replies slot last later
     pub done : ReplierDone off h pass later
 
-  replier_ended : (off : Bool) (h : ℕ) (pass : Pass) (new : Job F S D E C)
+  pub replier_ended : (off : Bool) (h : ℕ) (pass : Pass) (new : Job F S D E C)
       → Goes content faults lent spawning dialling moments off (Replies h 0 pass) new → ReplierEnded off h pass new
   replier_ended false h pass (Replies slot last later) go =
       record { slot = slot; last = last; later = later; is = refl; done = (last, go.0) }
@@ -83,7 +83,7 @@ module _ {F S D E C : Type 0} (content : F → Option (List ℕ → List ℕ)) (
   replier_ended true h pass _ go = absurd go
 
   -- what a talker is afterwards
-  record TalkerEnded (off : Bool) (n : ℕ) (dialer : D) (pass : Pass) (new : Job F S D E C) : Type 0 where
+  pub record TalkerEnded (off : Bool) (n : ℕ) (dialer : D) (pass : Pass) (new : Job F S D E C) : Type 0 where
     pub slot : ℕ
     pub dialer' : D
     pub ear : E
@@ -91,7 +91,7 @@ module _ {F S D E C : Type 0} (content : F → Option (List ℕ → List ℕ)) (
     pub is : new ≡ Talks slot dialer' ear later
     pub done : TalkerDone dialling off n dialer dialer' pass later
 
-  talker_ended : (off : Bool) (n : ℕ) (dialer : D) (ear : E) (pass : Pass) (new : Job F S D E C)
+  pub talker_ended : (off : Bool) (n : ℕ) (dialer : D) (ear : E) (pass : Pass) (new : Job F S D E C)
       → Goes content faults lent spawning dialling moments off (Talks n dialer ear pass) new
       → TalkerEnded off n dialer pass new
   talker_ended false n dialer ear pass (Talks slot dialer' ear' later) go =
@@ -102,7 +102,7 @@ module _ {F S D E C : Type 0} (content : F → Option (List ℕ → List ℕ)) (
   talker_ended true n dialer ear pass _ go = absurd go
 
   -- what a keeper is afterwards
-  record KeeperEnded (off : Bool) (path : List ℕ) (slots : Slots) (files : F) (pass : Pass) (new : Job F S D E C)
+  pub record KeeperEnded (off : Bool) (path : List ℕ) (slots : Slots) (files : F) (pass : Pass) (new : Job F S D E C)
       : Type 0 where
     pub files' : F
     pub path' : List ℕ
@@ -111,7 +111,7 @@ module _ {F S D E C : Type 0} (content : F → Option (List ℕ → List ℕ)) (
     pub is : new ≡ Keeps files' path' slots' later
     pub done : KeeperDone content faults lent off path slots files files' pass later
 
-  keeper_ended : (off : Bool) (path : List ℕ) (slots : Slots) (files : F) (pass : Pass) (new : Job F S D E C)
+  pub keeper_ended : (off : Bool) (path : List ℕ) (slots : Slots) (files : F) (pass : Pass) (new : Job F S D E C)
       → Goes content faults lent spawning dialling moments off (Keeps files path slots pass) new
       → KeeperEnded off path slots files pass new
   keeper_ended false path slots files pass (Keeps files' path' slots' later) go =
