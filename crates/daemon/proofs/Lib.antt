@@ -1,2 +1,2 @@
-pub mod JoinedLemmas
-pub mod RanLemmas
+mod MakingLemmas
+mod LaysLemmas
