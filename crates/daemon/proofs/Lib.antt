@@ -1,2 +1,5 @@
-mod MakingLemmas
+mod ApartLemmas
 mod LaysLemmas
+mod MakingLemmas
+pub mod JoinedLemmas
+pub mod RanLemmas
