@@ -1,4 +1,12 @@
+mod ApartLemmas
+mod DoneLemmas
 pub mod EnteredLemmas
 pub mod JoinedLemmas
 pub mod LawLemmas
+mod LaysLemmas
+mod MakingLemmas
+mod OrderLemmas
 pub mod RanLemmas
+mod RunLemmas
+mod WholeLemmas
+mod WordsLemmas
