@@ -1,6 +1,7 @@
 //! Running the jobs.
 ghost use Rattle.std.specs.Prelude.{◌≡◌, false, length, true};
 ghost use Rattle.std.specs.List.{AllZip};
+ghost use Rattle.std.specs.Thread.{IsSend};
 ghost use Rattle.crew.specs.Crews.{EachBecame, Ends, RefusesNone, RefusesOne};
 ghost use Rattle.crew.specs.Views.{jobs_of};
 ghost use Rattle.crew.specs.Works.{AllGo};
@@ -61,7 +62,15 @@ fn end_each<
 {
     let count = places.len();
     if count > 0 {
-        thread::for_each_mut(rt, places, count, &|_, place| end(rt, place));
+        thread::for_each_mut(
+            rt,
+            places,
+            count,
+            &|_, place|
+                requires { IsSend F.Source.row × IsSend S.Source.row × IsSend S.Sink.row
+                    × IsSend S.Leash.row × IsSend D.Link.row }
+            { end(rt, place) },
+        );
     }
 }
 

@@ -1,17 +1,19 @@
 -- From a full stock over its jobs' work to a full stock again.
-use Rattle.std.proofs.Common.{ℕ, ◌≡◌, ◌++◌, ◌∙◌, Bool, List, [], ◌∷◌, length, sym, ap, subst, refl}
+use Rattle.std.proofs.Common.{ℕ, ◌≡◌, ◌++◌, ◌∙◌, Bool, List, [], ◌∷◌, length, sym, ap, ap₂, subst}
 use Rattle.std.specs.List.{AllZip}
 use Rattle.std.specs.declared.option.Option.{Option}
 use Rattle.config_model.specs.declared.slots.Slots.{Slots}
+use Rattle.book_gate.specs.Known.{TableId}
 use Rattle.helper_worker.specs.Rounds.{Told as Spawning}
 use Rattle.peer_worker.specs.Rounds.{Told as Dialling}
 use Rattle.crew.specs.Jobs.{Job}
 use Rattle.crew.specs.Works.{AllGo}
 use Rattle.daemon.specs.Done.{JobsDone}
-use Rattle.daemon.specs.Laid.{AreWhole, Gains, HasRoom, IsLaid, IsUsedUp, dialers, ears, files_of, passes, spawners}
+use Rattle.daemon.specs.Laid.{AreWhole, Gains, HasRoom, IsFull, IsLaid, IsUsedUp, dialers, ears, files_of, passes, spawners}
+use Rattle.daemon.specs.Names.{workers}
 use Rattle.daemon.specs.declared.stock.Stock.{Stock}
 use Rattle.daemon.proofs.DoneLemmas.{all_alike, jobs_done}
-use Rattle.daemon.proofs.WholeLemmas.{SameCounts, alike_counts, helpers_whole, laid_devices, room_again}
+use Rattle.daemon.proofs.WholeLemmas.{SameCounts, alike_counts, helpers_whole, laid_count, laid_devices, room_again}
 
 -- a list that was empty has just what it gained
 only_gained : {A : Type 0} (left got all : List A) → left ≡ [] → all ≡ left ++ got → all ≡ got
@@ -72,3 +74,14 @@ module _ {F S D E C : Type 0} (content : F → Option (List ℕ → List ℕ)) (
 
     pub as_many_ears : length last.ears.items ≡ length full.ears.items
     as_many_ears = ap length ears_are ∙ (gone_counts.of_ears ∙ ap length were.2)
+
+module _ {F S D E C : Type 0} (clock : C) (path : List ℕ) (slots : Slots) (files : F) (gate : TableId)
+    (full : Stock S D E) (jobs : List (Job F S D E C)) where
+  -- there are as many jobs as workers for the slots
+  pub all_jobs : (count : ℕ) → length jobs ≡ count → IsFull gate full → slots.helpers ≡ length full.helpers.items
+      → slots.peers ≡ length full.peers.items
+      → IsLaid files path slots clock full.peers.items full.ears.items full.helpers.items jobs full.passes.items
+      → count ≡ workers slots.helpers slots.peers
+  all_jobs count is whole many few laid =
+      sym is ∙ (laid_count files path slots clock full.peers.items full.ears.items 0 full.helpers.items jobs full.passes.items
+      laid ∙ (whole.a_pass_each ∙ ap₂ workers (sym many) (sym few)))
