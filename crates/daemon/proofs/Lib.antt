@@ -1,5 +1,7 @@
 mod ApartLemmas
 mod LaysLemmas
 mod MakingLemmas
+mod StepLemmas
+mod WholeLemmas
 pub mod JoinedLemmas
 pub mod RanLemmas

@@ -403,7 +403,10 @@ pub fn make_all<
     ensures files { IfErr result (λ kept. kept ≡ files) }
     ensures back { OnErr result (HaveSame stock.old stock.new) }
 {
-    let mut places = start_keeper(alloc, gate, path, slots, files, pause, stock)?;
+    let mut places = match start_keeper(alloc, gate, path, slots, files, pause, stock) {
+        Ok(places) => places,
+        Err(files) => return Err(files),
+    };
     let rest = add_rest(alloc, gate, clock, pause, stock, &mut places);
     places.reverse();
     match rest {
