@@ -212,7 +212,7 @@ module _ {F S D E C : Type 0} (base mid last : Stock S D E) (jobs : List (Job F 
         same_passes = other.of_passes ∙ sym one.of_passes;
       }
 
-first_of : {A : Type 0} (fallback : A) → List A → A
+abbrev first_of : {A : Type 0} (fallback : A) → List A → A
 first_of fallback [] = fallback
 first_of fallback (x ∷ xs) = x
 

@@ -1,6 +1,7 @@
 mod ApartLemmas
 mod LaysLemmas
 mod MakingLemmas
+mod PutLemmas
 mod StepLemmas
 mod WholeLemmas
 pub mod JoinedLemmas

@@ -111,8 +111,8 @@ fn put_job<
     left: &mut Vec<Place<Worker<'g, F, S, D, E, C, P, N>>>,
     stock: &mut Stock<S, D, E>,
 ) -> Option<F>
-    requires whole { AreWhole (job_of worker.entry ∷ reverse (jobs_of left.old.items)) }
-    requires room { HasRoom stock.old (job_of worker.entry ∷ reverse (jobs_of left.old.items)) }
+    requires whole { AreWhole (job_of worker ∷ reverse (jobs_of left.old.items)) }
+    requires room { HasRoom stock.old (job_of worker ∷ reverse (jobs_of left.old.items)) }
     ensures files { IfSome result (λ files. files_of (job_of worker.entry
         ∷ reverse (jobs_of left.old.items)) ≡ files ∷ []) }
     ensures back { IfSome result (λ files. Gains stock.old (job_of worker.entry
@@ -153,8 +153,8 @@ pub fn take_all_apart<
     mut places: Vec<Place<Worker<'g, F, S, D, E, C, P, N>>>,
     stock: &mut Stock<S, D, E>,
 ) -> F
-    requires whole { AreWhole (jobs_of places.entry.items) }
-    requires room { HasRoom stock.old (jobs_of places.entry.items) }
+    requires whole { AreWhole (jobs_of places.items) }
+    requires room { HasRoom stock.old (jobs_of places.items) }
     ensures files { files_of (jobs_of places.entry.items) ≡ result ∷ [] }
     ensures back { Gains stock.old (jobs_of places.entry.items) stock.new }
 {
