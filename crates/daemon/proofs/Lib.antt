@@ -1,4 +1,5 @@
 mod ApartLemmas
+mod BackLemmas
 mod LaysLemmas
 mod MakingLemmas
 mod PutLemmas
