@@ -16,6 +16,13 @@ use helper_worker::{Apart, Reader, Replier, take_apart};
 use outside::{Clock, Dialer, Ear, Files, Pause, Spawner};
 use peer_worker::{Talker, TalkerParts};
 
+// Turns the order round.
+pub(crate) fn turn_round<T>(items: &mut Vec<T>)
+    ensures { items.new.items ≡ reverse items.old.items }
+{
+    items.reverse();
+}
+
 // Puts what a talker was made of back.
 fn put_talker<S, D: Dialer + Drop, E: Ear + Drop, C: Clock + Drop, P: Pause + Drop>(
     talker: Talker<'_, D, E, C, P>,
@@ -158,7 +165,7 @@ pub fn take_all_apart<
     ensures files { files_of (jobs_of places.entry.items) ≡ result ∷ [] }
     ensures back { Gains stock.old (jobs_of places.entry.items) stock.new }
 {
-    places.reverse();
+    turn_round(&mut places);
     while let Some(place) = places.pop() {
         if let Some(files) = put_job(place.worker, &mut places, stock) {
             return files;

@@ -9,7 +9,7 @@ ghost use Rattle.daemon.specs.Making.{
     IsKept, Lays, Moves, MovesHelpers, MovesPeers, PairMore, PassMore, SameRoom, TalkerMore
 };
 
-use crate::apart::take_all_apart;
+use crate::apart::{take_all_apart, turn_round};
 use crate::stock::Stock;
 use answers::NoMemory;
 use book_core::Book;
@@ -409,7 +409,7 @@ pub fn make_all<
         Err(files) => return Err(files),
     };
     let rest = add_rest(alloc, gate, clock, pause, stock, &mut places);
-    places.reverse();
+    turn_round(&mut places);
     match rest {
         Ok(()) => Ok(places),
         Err(NoMemory) => Err(take_all_apart(places, stock)),

@@ -16,3 +16,12 @@ add_rest-requires-clause-passes g c = left_passes _ _ _ _ _ _ c.in-Ok.ensures.ke
 
 pub add_rest-requires-clause-fresh : goal.add_rest-requires-clause-fresh
 add_rest-requires-clause-fresh g c = left_fresh _ _ _ _ _ _ c.in-Ok.ensures.kept _ c.requires.full
+
+pub take_all_apart-requires : goal.take_all_apart-requires
+take_all_apart-requires g c =
+    record {
+      whole = all_whole _ _ _ _ _ _ _ _ _ _ c.turn_round.ensures c.in-Ok.ensures.kept c.add_rest-rest.ensures.moves;
+      room =
+          all_room _ _ _ _ _ _ _ _ _ _ c.turn_round.ensures c.in-Ok.ensures.kept c.add_rest-rest.ensures.moves
+          c.start_keeper.ensures.room;
+    }
