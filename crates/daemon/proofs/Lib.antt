@@ -1,6 +1,7 @@
 mod ApartLemmas
 mod DoneLemmas
 pub mod EnteredLemmas
+mod GoneLemmas
 pub mod JoinedLemmas
 pub mod LawLemmas
 mod LaysLemmas
