@@ -1,0 +1,1 @@
+use Rattle.daemon.proofs.run.exabgp_run.Goals as goal
