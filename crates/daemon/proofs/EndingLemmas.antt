@@ -202,8 +202,8 @@ module _ {F S D C P E : Type 0} (content : F → Option (List ℕ → List ℕ))
           × Rose old.crew.faults new.crew.faults)
           → IfSome all (λ every. IsLastOf later passes' new.last)
           → EndsAs content faults spawning dialling moments path old ends new
-      ended all ends as same last done none one joined =
-          subst (λ (it : Status). EndsAs content faults spawning dialling moments path old it new) (sym as)
+      ended all ends it_is same last done none one joined =
+          subst (λ (it : Status). EndsAs content faults spawning dialling moments path old it new) (sym it_is)
           (ended_by all same last done none one joined)
 
 -- what a stock, files and a plan are where there was no memory

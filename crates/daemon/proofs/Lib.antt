@@ -1,4 +1,9 @@
+pub mod AnswerLemmas
+pub mod DoneLemmas
+pub mod EndingLemmas
 pub mod EnteredLemmas
 pub mod JoinedLemmas
 pub mod LawLemmas
+pub mod OrderLemmas
 pub mod RanLemmas
+pub mod WordsLemmas
