@@ -1,9 +1,14 @@
 pub mod AnswerLemmas
+pub mod ApartLemmas
 pub mod DoneLemmas
 pub mod EndingLemmas
 pub mod EnteredLemmas
 pub mod JoinedLemmas
 pub mod LawLemmas
+pub mod LaysLemmas
+pub mod MakingLemmas
 pub mod OrderLemmas
 pub mod RanLemmas
+pub mod RunLemmas
+pub mod WholeLemmas
 pub mod WordsLemmas

@@ -22,7 +22,9 @@ use std::alloc::Global;
 use std::sync::Wait;
 use std::thread::Threads;
 
-/// The path of the configuration's file.
+/// The path of a configuration.
+///
+/// A struct, since `N` can't be chosen at a call that takes a `&str`.
 #[derive(Clone, Copy)]
 pub struct ConfigPath<'a> {
     pub text: &'a str,
