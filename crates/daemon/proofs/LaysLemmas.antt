@@ -2,6 +2,7 @@
 use Rattle.std.proofs.Common.{ℕ, ◌≡◌, ◌+◌, ◌≤◌, List, [], ◌∷◌, ◌++◌, length, refl, ap, sym, subst, ◌∙◌, arith}
 use Rattle.std.proofs.Common.{append-nil, length-append}
 use Rattle.std.specs.Prelude.{map, reverse}
+use Rattle.std.proofs.lemmas.List.{reverse-reverse}
 use mathlib.Core.List.{reverse_aux}
 use Rattle.config_model.specs.Sections.{Sections}
 use Rattle.config_model.specs.declared.slots.Slots.{Slots}
@@ -24,6 +25,9 @@ turned_onto f (x ∷ xs) ys = turned_onto f xs (x ∷ ys)
 pub turned : {X J : Type 0} (f : X → J) (old new : List X) → new ≡ reverse old → map f new ≡ reverse (map f old)
 turned f old new is = ap (map f) is ∙ turned_onto f old []
 
+pub turned_back : {X J : Type 0} (f : X → J) (old new : List X) → new ≡ reverse old → reverse (map f new) ≡ map f old
+turned_back f old new is = ap reverse (turned f old new is) ∙ reverse-reverse (map f old)
+
 -- a list of no length
 pub no_length : {A : Type 0} (xs : List A) → length xs ≡ 0 → xs ≡ []
 no_length [] is = refl
@@ -39,7 +43,7 @@ fits items len room room' left xs ok is same =
     omega (arith, e, f, g, same)
 
 module _ {S D E : Type 0} where
-  room_on : (old mid new : Stock S D E) → SameRoom old mid → SameRoom mid new → SameRoom old new
+  pub room_on : (old mid new : Stock S D E) → SameRoom old mid → SameRoom mid new → SameRoom old new
   room_on old mid new first second =
       record {
         room_helpers = second.room_helpers ∙ first.room_helpers;
@@ -208,7 +212,7 @@ module _ {F S D E C : Type 0} (base mid last : Stock S D E) (jobs : List (Job F 
         same_passes = other.of_passes ∙ sym one.of_passes;
       }
 
-first_of : {A : Type 0} (fallback : A) → List A → A
+abbrev first_of : {A : Type 0} (fallback : A) → List A → A
 first_of fallback [] = fallback
 first_of fallback (x ∷ xs) = x
 

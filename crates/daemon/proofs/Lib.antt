@@ -1,5 +1,6 @@
 pub mod AnswerLemmas
 pub mod ApartLemmas
+pub mod BackLemmas
 pub mod DoneLemmas
 pub mod EndingLemmas
 pub mod EnteredLemmas
@@ -8,7 +9,9 @@ pub mod LawLemmas
 pub mod LaysLemmas
 pub mod MakingLemmas
 pub mod OrderLemmas
+pub mod PutLemmas
 pub mod RanLemmas
 pub mod RunLemmas
+pub mod StepLemmas
 pub mod WholeLemmas
 pub mod WordsLemmas

@@ -16,6 +16,13 @@ use helper_worker::{Apart, Reader, Replier, take_apart};
 use outside::{Clock, Dialer, Ear, Files, Pause, Spawner};
 use peer_worker::{Talker, TalkerParts};
 
+// Turns the order round.
+pub(crate) fn turn_round<T>(items: &mut Vec<T>)
+    ensures { items.new.items ≡ reverse items.old.items }
+{
+    items.reverse();
+}
+
 // Puts what a talker was made of back.
 fn put_talker<S, D: Dialer + Drop, E: Ear + Drop, C: Clock + Drop, P: Pause + Drop>(
     talker: Talker<'_, D, E, C, P>,
@@ -111,8 +118,8 @@ fn put_job<
     left: &mut Vec<Place<Worker<'g, F, S, D, E, C, P, N>>>,
     stock: &mut Stock<S, D, E>,
 ) -> Option<F>
-    requires whole { AreWhole (job_of worker.entry ∷ reverse (jobs_of left.old.items)) }
-    requires room { HasRoom stock.old (job_of worker.entry ∷ reverse (jobs_of left.old.items)) }
+    requires whole { AreWhole (job_of worker ∷ reverse (jobs_of left.old.items)) }
+    requires room { HasRoom stock.old (job_of worker ∷ reverse (jobs_of left.old.items)) }
     ensures files { IfSome result (λ files. files_of (job_of worker.entry
         ∷ reverse (jobs_of left.old.items)) ≡ files ∷ []) }
     ensures back { IfSome result (λ files. Gains stock.old (job_of worker.entry
@@ -153,12 +160,12 @@ pub fn take_all_apart<
     mut places: Vec<Place<Worker<'g, F, S, D, E, C, P, N>>>,
     stock: &mut Stock<S, D, E>,
 ) -> F
-    requires whole { AreWhole (jobs_of places.entry.items) }
-    requires room { HasRoom stock.old (jobs_of places.entry.items) }
+    requires whole { AreWhole (jobs_of places.items) }
+    requires room { HasRoom stock.old (jobs_of places.items) }
     ensures files { files_of (jobs_of places.entry.items) ≡ result ∷ [] }
     ensures back { Gains stock.old (jobs_of places.entry.items) stock.new }
 {
-    places.reverse();
+    turn_round(&mut places);
     while let Some(place) = places.pop() {
         if let Some(files) = put_job(place.worker, &mut places, stock) {
             return files;

@@ -9,7 +9,7 @@ ghost use Rattle.daemon.specs.Making.{
     IsKept, Lays, Moves, MovesHelpers, MovesPeers, PairMore, PassMore, SameRoom, TalkerMore
 };
 
-use crate::apart::take_all_apart;
+use crate::apart::{take_all_apart, turn_round};
 use crate::stock::Stock;
 use answers::NoMemory;
 use book_core::Book;
@@ -92,7 +92,7 @@ fn make_talker<'g, S, D: Dialer + Drop, E: Ear + Drop, C: Clock + Drop, P: Pause
     requires some { 0 < length stock.old.peers.items }
     requires few { length stock.old.peers.items ≤ max_peers }
     requires ears { length stock.old.ears.items ≡ length stock.old.peers.items }
-    requires passes { 0 < length stock.old.passes.items }
+    requires passes { length stock.old.peers.items ≤ length stock.old.passes.items }
     requires fresh { AreFresh gate.now stock.old.passes.items }
     ensures gave { IfOk result (λ talker. TalkerMore stock.new talker.dialer talker.ear talker.pass
         stock.old) }
@@ -165,13 +165,13 @@ fn add_slot<
     ensures never_more { length stock.new.helpers.items ≤ length stock.old.helpers.items }
     ensures space { vec_capacity places.new ≡ vec_capacity places.old }
 {
-    let Pair { reader, replier } = make_slot(alloc, gate, clock, pause, stock)?;
+    let pair = make_slot(alloc, gate, clock, pause, stock)?;
     places.push_reserved(Place {
-        worker: Worker::Replying(replier),
+        worker: Worker::Replying(pair.replier),
         refused: false,
     });
     places.push_reserved(Place {
-        worker: Worker::Reading(reader),
+        worker: Worker::Reading(pair.reader),
         refused: false,
     });
     Ok(())
@@ -198,7 +198,7 @@ fn add_talker<
     requires some { 0 < length stock.old.peers.items }
     requires few { length stock.old.peers.items ≤ max_peers }
     requires ears { length stock.old.ears.items ≡ length stock.old.peers.items }
-    requires passes { 0 < length stock.old.passes.items }
+    requires passes { length stock.old.peers.items ≤ length stock.old.passes.items }
     requires fresh { AreFresh gate.now stock.old.passes.items }
     requires space { length places.old.items + length stock.old.passes.items
         ≤ vec_capacity places.old }
@@ -320,7 +320,8 @@ fn add_rest<
         (reverse (jobs_of places.new.items))) }
 {
     add_talkers(alloc, gate, clock, pause, stock, places)?;
-    add_slots(alloc, gate, clock, pause, stock, places)
+    add_slots(alloc, gate, clock, pause, stock, places)?;
+    Ok(())
 }
 
 // The keeper alone, of the last pass of a stock. There is room for as many jobs more as passes are left.
@@ -403,9 +404,12 @@ pub fn make_all<
     ensures files { IfErr result (λ kept. kept ≡ files) }
     ensures back { OnErr result (HaveSame stock.old stock.new) }
 {
-    let mut places = start_keeper(alloc, gate, path, slots, files, pause, stock)?;
+    let mut places = match start_keeper(alloc, gate, path, slots, files, pause, stock) {
+        Ok(places) => places,
+        Err(files) => return Err(files),
+    };
     let rest = add_rest(alloc, gate, clock, pause, stock, &mut places);
-    places.reverse();
+    turn_round(&mut places);
     match rest {
         Ok(()) => Ok(places),
         Err(NoMemory) => Err(take_all_apart(places, stock)),
