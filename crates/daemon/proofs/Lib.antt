@@ -1,5 +1,8 @@
+mod AnswerLemmas
 mod ApartLemmas
+mod BackLemmas
 mod DoneLemmas
+pub mod EndingLemmas
 pub mod EnteredLemmas
 mod GoneLemmas
 pub mod JoinedLemmas
@@ -7,7 +10,9 @@ pub mod LawLemmas
 mod LaysLemmas
 mod MakingLemmas
 mod OrderLemmas
+mod PutLemmas
 pub mod RanLemmas
 mod RunLemmas
+mod StepLemmas
 mod WholeLemmas
 mod WordsLemmas

@@ -11,7 +11,7 @@ ghost use Rattle.daemon.specs.Ending.{
     status_by, status_for,
 };
 
-use crate::running::{Left, run_jobs, workers};
+use crate::running::{ConfigPath, Left, run_jobs, workers};
 use crate::stock::Stock;
 use crate::words::run_path;
 use crate::world::{Ran, World};
@@ -214,6 +214,7 @@ fn run_gate<
         mut crew,
         last,
     } = world;
+    let path = ConfigPath { text: path };
     let mut stock = Stock {
         passes,
         helpers,
