@@ -1,18 +1,18 @@
-mod AnswerLemmas
-mod ApartLemmas
-mod BackLemmas
-mod DoneLemmas
+pub mod AnswerLemmas
+pub mod ApartLemmas
+pub mod BackLemmas
+pub mod DoneLemmas
 pub mod EndingLemmas
 pub mod EnteredLemmas
-mod GoneLemmas
+pub mod GoneLemmas
 pub mod JoinedLemmas
 pub mod LawLemmas
-mod LaysLemmas
-mod MakingLemmas
-mod OrderLemmas
-mod PutLemmas
+pub mod LaysLemmas
+pub mod MakingLemmas
+pub mod OrderLemmas
+pub mod PutLemmas
 pub mod RanLemmas
-mod RunLemmas
-mod StepLemmas
-mod WholeLemmas
-mod WordsLemmas
+pub mod RunLemmas
+pub mod StepLemmas
+pub mod WholeLemmas
+pub mod WordsLemmas
