@@ -1,4 +1,4 @@
-use Rattle.std.proofs.Common.{subst}
+use Rattle.std.proofs.Common.{ℕ, subst}
 use Rattle.helper_worker.specs.Rounds.{told as told_by}
 use Rattle.peer_worker.specs.Rounds.{told}
 use Rattle.book_gate_many.specs.Many.{IsMany}
@@ -9,7 +9,7 @@ use Rattle.daemon.proofs.run.run_gate.Goals as goal
 pub run_jobs-files-requires-clause-full : goal.run_jobs-files-requires-clause-full
 run_jobs-files-requires-clause-full g c κs within =
     let opened = c.requires.opened in
-    let many = subst (λ count. IsMany c.args.opened.pass count c.split_many.new.pass c.in-Ok.passes.items)
+    let many = subst (λ (count : ℕ). IsMany c.args.opened.pass count c.split_many.new.pass c.in-Ok.passes.items)
     c.workers.ensures c.in-Ok.ensures in
     full c.args.opened.gate _ c.args.slots.helpers c.args.slots.peers
     (are_new c.args.opened.gate opened.0 _ c.args.opened.pass c.split_many.new.pass c.in-Ok.passes.items opened.2 many)
@@ -18,7 +18,7 @@ run_jobs-files-requires-clause-full g c κs within =
 pub end-status-requires-clause-passes : goal.end-status-requires-clause-passes
 end-status-requires-clause-passes g c =
     let opened = c.requires.opened in
-    let many = subst (λ count. IsMany c.args.opened.pass count c.split_many.new.pass c.in-Ok.passes.items)
+    let many = subst (λ (count : ℕ). IsMany c.args.opened.pass count c.split_many.new.pass c.in-Ok.passes.items)
     c.workers.ensures c.in-Ok.ensures in
     let jobs = c.run_jobs-files in
     gates_back g.F.Files.content g.F.Files.faults
@@ -32,7 +32,7 @@ end-status-requires-clause-passes g c =
 pub returns-clause-ends : goal.returns-clause-ends
 returns-clause-ends g c =
     let opened = c.requires.opened in
-    let many = subst (λ count. IsMany c.args.opened.pass count c.split_many.new.pass c.in-Ok.passes.items)
+    let many = subst (λ (count : ℕ). IsMany c.args.opened.pass count c.split_many.new.pass c.in-Ok.passes.items)
     c.workers.ensures c.in-Ok.ensures in
     let jobs = c.run_jobs-files in
     ended g.F.Files.content g.F.Files.faults
@@ -57,7 +57,7 @@ returns-clause-ends g c =
 pub returns-clause-files : goal.returns-clause-files
 returns-clause-files g c =
     let opened = c.requires.opened in
-    let many = subst (λ count. IsMany c.args.opened.pass count c.split_many.new.pass c.in-Ok.passes.items)
+    let many = subst (λ (count : ℕ). IsMany c.args.opened.pass count c.split_many.new.pass c.in-Ok.passes.items)
     c.workers.ensures c.in-Ok.ensures in
     let jobs = c.run_jobs-files in
     files_back g.F.Files.content g.F.Files.faults
