@@ -1,3 +1,4 @@
+use Rattle.std.proofs.Common.{arith}
 use Rattle.helper_worker.specs.Rounds.{told as told_by}
 use Rattle.peer_worker.specs.Rounds.{told}
 use Rattle.daemon.proofs.EndingLemmas.{ends_on, unread}
@@ -9,7 +10,8 @@ returns-in-Err-clause-ends g c =
     (λ spawner. told_by (g.S.Spawner.children spawner) (g.S.Spawner.asked spawner) (g.S.Spawner.failed spawner))
     (λ dialer. told (g.D.Dialer.links dialer) (g.D.Dialer.asked dialer) (g.D.Dialer.failed dialer))
     g.C.Clock.moments c.args.path.now c.args.world c.read_config_at.new.files _ c.in-Err.why c.status_of.result
-    c.status_of.ensures (c.len.ensures, c.len-2.ensures) c.in-Err.ensures.none
+    c.status_of.ensures (omega (arith, c.len.ensures, c.args.world.helpers.ok.0), omega (arith, c.len-2.ensures, c.args.world.peers.ok.0))
+     c.in-Err.ensures.none
     (λ is. c.in-Err.ensures.count (cc)) (λ other. c.in-Err.ensures.same (λ is. other (cc)))
 
 pub returns-in-Some-clause-ends : goal.returns-in-Some-clause-ends
