@@ -98,6 +98,7 @@ module _ {F S D C P E : Type 0} (content : F → Option (List ℕ → List ℕ))
             (devices spawning dialling (moments old.clock) new.helpers.items new.peers.items (faults new.files))
             (content files') path run.slots run.last) counts run.run);
       }
+
       kept_on : IsKept (record old { files = files' }) new → IsKept old new
       kept_on kept = record {
         helpers = kept.helpers;
@@ -106,18 +107,26 @@ module _ {F S D C P E : Type 0} (content : F → Option (List ℕ → List ℕ))
         crew = kept.crew;
         last = kept.last;
       }
+
       at_status : (ends : Status) → EndsAs content faults spawning dialling moments path (record old { files = files' }) ends new
           → EndsAs content faults spawning dialling moments path old ends new
       at_status status.Ok (run, none) = (run_on run, none)
       at_status status.NoCrew (run, one, rose) = (run_on run, one, rose)
       at_status status.ConfigRead (kept, one) =
           (kept_on kept, subst (λ (was : ℕ). CountsOne was (faults new.files)) counts one)
-      at_status (status.ConfigRefused fault) (kept, same, (slots, are, fault_is)) =
-          (kept_on kept, same ∙ counts, (slots, are, record {
+      at_status (status.ConfigRefused fault) (kept, same, (slots, are, fault_is)) = (
+        kept_on kept,
+        same ∙ counts,
+        (
+          slots,
+          are,
+          record {
             bytes = fault_is.bytes;
             are = subst (λ (given : Option (List ℕ → List ℕ)). IsContent given path fault_is.bytes) told fault_is.are;
             first = fault_is.first;
-          }))
+          },
+        ),
+      )
       at_status status.NoMemory (kept, same) = (kept_on kept, same ∙ counts)
       at_status _ is = absurd is
 

@@ -1,6 +1,13 @@
 //! The laws of a run's history.
 ghost use Rattle.daemon.specs.Laws.{
-    RunsAnswer, RunsCount, RunsEnd, RunsEnter, RunsName, RunsReload, RunsShutDown, RunsStop,
+  RunsAnswer,
+  RunsCount,
+  RunsEnd,
+  RunsEnter,
+  RunsName,
+  RunsReload,
+  RunsShutDown,
+  RunsStop,
 };
 
 /// What follows of the history that `exabgp_run` leaves in `World::last`. The function does nothing: its contract is the law.

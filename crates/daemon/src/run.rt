@@ -7,8 +7,17 @@ ghost use Rattle.helper_worker.specs.Rounds.{told as told_by};
 ghost use Rattle.outside.specs.Told.{Rose};
 ghost use Rattle.peer_worker.specs.Rounds.{told};
 ghost use Rattle.daemon.specs.Ending.{
-    AreSlots, EndsAs, HasFiles, HasToldConfig, HasToldFault, IsBack, IsLastOf, IsOpenedBy, run_words,
-    status_by, status_for,
+  AreSlots,
+  EndsAs,
+  HasFiles,
+  HasToldConfig,
+  HasToldFault,
+  IsBack,
+  IsLastOf,
+  IsOpenedBy,
+  run_words,
+  status_by,
+  status_for,
 };
 
 use crate::running::{ConfigPath, Left, run_jobs, workers};
@@ -275,9 +284,5 @@ fn end(
 fn status_by(every: bool) -> Status
     ensures { result ≡ status_by (Some every) }
 {
-    if every {
-        Status::Ok
-    } else {
-        Status::NoCrew
-    }
+    if every { Status::Ok } else { Status::NoCrew }
 }

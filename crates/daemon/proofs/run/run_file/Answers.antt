@@ -10,8 +10,9 @@ returns-in-Err-clause-ends g c =
     (λ spawner. told_by (g.S.Spawner.children spawner) (g.S.Spawner.asked spawner) (g.S.Spawner.failed spawner))
     (λ dialer. told (g.D.Dialer.links dialer) (g.D.Dialer.asked dialer) (g.D.Dialer.failed dialer))
     g.C.Clock.moments c.args.path.now c.args.world c.read_config_at.new.files _ c.in-Err.why c.status_of.result
-    c.status_of.ensures (omega (arith, c.len.ensures, c.args.world.helpers.ok.0), omega (arith, c.len-2.ensures, c.args.world.peers.ok.0))
-     c.in-Err.ensures.none
+    c.status_of.ensures
+    (omega (arith, c.len.ensures, c.args.world.helpers.ok.0), omega (arith, c.len-2.ensures, c.args.world.peers.ok.0))
+    c.in-Err.ensures.none
     (λ is. c.in-Err.ensures.count (cc)) (λ other. c.in-Err.ensures.same (λ is. other (cc)))
 
 pub returns-in-Some-clause-ends : goal.returns-in-Some-clause-ends
