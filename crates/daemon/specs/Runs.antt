@@ -22,8 +22,6 @@ use Rattle.helper_worker.specs.Rounds.Outcome.{Heard}
 use Rattle.helper_worker.specs.Rounds.Round.{Start}
 use Rattle.helper_worker.specs.Serving.{IsServed, Rises, Served, entries_in}
 use Rattle.peer_worker.specs.Rounds.{IsGood, Told as Dialling, told as dialling_told, Tells as Dials, Round as Talking, entries_of as talked_by, stopping}
-use Rattle.script_play.specs.declared.status.Status.{Status}
-use Rattle.script_play.specs.declared.status.Status.TheVariants as status_is
 use Rattle.daemon.specs.Done.{IfRun}
 use Rattle.daemon.specs.Names.{IsWorker, keeper_of, reader_of, talker_of}
 
@@ -136,7 +134,3 @@ pub record IsRun (refused : ℕ → Bool) (old new : Devices) (content : Option 
   pub repliers : (h : ℕ) → h < slots.helpers → ReplierEnds refused old new content path slots last.seen h
   pub talkers : (n : ℕ) → n < slots.peers → TalkerEnds refused old new content path slots last.seen n
   pub keeper : KeeperEnds refused old new content path slots last.seen
-
--- with these statuses the workers were started
-abbrev pub HasRun : Status → Type 0
-HasRun status = (status ≡ status_is.Ok) ⊎ (status ≡ status_is.NoCrew)
