@@ -12,14 +12,18 @@ children() {
   cat "/proc/$1/task"/*/children 2>/dev/null
 }
 
-# Ends what was started, each by its number, and what it has started in turn.
+# Kills a process that the check has started, and what that has started in turn.
+end() {
+  # Word by word: there may be many.
+  # shellcheck disable=SC2046
+  { kill -9 "$1" $(children "$1"); wait "$1"; } 2>/dev/null
+}
+
+# Kills what the check has started, each by its number.
 end_all() {
   local pid
   for pid in "${pids[@]}"; do
-    # Word by word: there may be many.
-    # shellcheck disable=SC2046
-    kill -9 "$pid" $(children "$pid") 2>/dev/null
-    wait "$pid" 2>/dev/null
+    end "$pid"
   done
   pids=()
 }
