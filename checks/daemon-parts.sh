@@ -12,14 +12,18 @@ children() {
   cat "/proc/$1/task"/*/children 2>/dev/null
 }
 
-# Ends what was started, each by its number, and what it has started in turn.
+# Kills a process that the check has started, and what that has started in turn.
+end() {
+  # Word by word: there may be many.
+  # shellcheck disable=SC2046
+  { kill -9 "$1" $(children "$1"); wait "$1"; } 2>/dev/null
+}
+
+# Kills what the check has started, each by its number.
 end_all() {
   local pid
   for pid in "${pids[@]}"; do
-    # Word by word: there may be many.
-    # shellcheck disable=SC2046
-    kill -9 "$pid" $(children "$pid") 2>/dev/null
-    wait "$pid" 2>/dev/null
+    end "$pid"
   done
   pids=()
 }
@@ -49,7 +53,8 @@ within() {
   done
 }
 
-# Counts whether a command succeeds within so many seconds, and says what was looked for where it doesn't.
+# Counts whether a command succeeds within so many seconds. Where it doesn't, says what was looked for, and what the logs
+# told last.
 sees() {
   local what=$1
   shift
@@ -58,6 +63,7 @@ sees() {
   else
     failed=$((failed + 1))
     echo "${0##*/}: not seen within $1 s: $what"
+    tail -n 8 ./*.log daemon.err
   fi
 }
 
