@@ -95,10 +95,7 @@ fn add_pair<
     C: Clock + Drop,
     P: Pause + Drop,
     N: GateName,
->(
-    places: &mut Vec<Place<Worker<'g, F, S, D, E, C, P, N>>>,
-    pair: Pair<'g, S, C, P, N>,
-) {
+>(places: &mut Vec<Place<Worker<'g, F, S, D, E, C, P, N>>>, pair: Pair<'g, S, C, P, N>) {
     let Pair { reader, replier } = pair;
     let _ = places.push(Place {
         worker: Worker::Reading(reader),

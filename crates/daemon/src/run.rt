@@ -89,7 +89,11 @@ fn run_config<
     let Some(all) = all else {
         return Over { files, ended: None };
     };
-    join_many(&gate, &mut pass, std::mem::replace(&mut stock.passes, Vec::new(alloc)));
+    join_many(
+        &gate,
+        &mut pass,
+        std::mem::replace(&mut stock.passes, Vec::new(alloc)),
+    );
     Over {
         files,
         ended: Some(Ended { last: pass, all }),

@@ -115,6 +115,10 @@ fn a_session_that_is_quiet_for_its_hold_time_is_over(rt: HostRuntime) -> Result<
             },
             ..ENDS
         },
+        again: Way {
+            held: (0, Count::OtherTook, 5),
+            ..FREE
+        },
         step: 1_000,
         ..BASE
     };
@@ -160,9 +164,8 @@ fn a_daemon_without_a_configuration_starts_nothing(rt: HostRuntime) -> Result<()
 
 // Whether nothing was started, connected to or run.
 fn is_untouched(world: &Devices<'_>) -> bool {
-    let started = world
-        .helpers
-        .first()
-        .is_some_and(|helper| helper.asked().is_some_and(|asked| !asked.is_empty()));
+    let started = world.helpers.first().is_some_and(|helper| helper
+        .asked()
+        .is_some_and(|asked| !asked.is_empty()));
     !started && links(world).is_empty() && world.last.is_none()
 }

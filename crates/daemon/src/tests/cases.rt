@@ -16,6 +16,7 @@ pub const BASE: Case<'static> = Case {
     second: SILENT,
     giving: FREE,
     taking: FREE,
+    again: FREE,
     step: 0,
     status: Status::Ok,
     faults: [0, 0, 0],
@@ -87,9 +88,9 @@ pub const CASES: [Case<'static>; 10] = [
             lines: b"announce route 10.0.0.0/24 next-hop 192.0.2.1\nshutdown\n",
             next: b"shutdown\n",
             giving: Way {
-            held: (46, Count::Said, 140),
-            ..FREE
-        },
+                held: (46, Count::Said, 140),
+                ..FREE
+            },
             ..SILENT
         },
         giving: Way {
@@ -151,9 +152,9 @@ pub const CASES: [Case<'static>; 10] = [
             lines: b"announce route 10.0.0.0/24 next-hop 192.0.2.1\nwithdraw route 10.0.0.0/24\n",
             next: b"",
             giving: Way {
-            held: (46, Count::Killed, 1),
-            ..FREE
-        },
+                held: (46, Count::Killed, 1),
+                ..FREE
+            },
             taking: Way {
                 step: 2,
                 failing: &[1],
@@ -244,10 +245,7 @@ pub const CASES: [Case<'static>; 10] = [
 // A helper that says a part of a line, and is gone. A neighbour is then sent no route.
 pub const CUT: Case<'static> = Case {
     why: "a line that isn't ended is none",
-    first: Child {
-        next: b"",
-        ..ENDS
-    },
+    first: Child { next: b"", ..ENDS },
     second: ENDS_BEHIND_NONE,
     giving: Way {
         held: (0, Count::Ended, 1),

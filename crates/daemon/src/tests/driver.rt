@@ -98,6 +98,8 @@ pub struct Case<'a> {
     /// The first link.
     pub giving: Way<'a>,
     pub taking: Way<'a>,
+    /// What the second link gives.
+    pub again: Way<'a>,
     /// How far each wait moves the clock on, in milliseconds.
     pub step: u64,
     pub status: Status,
@@ -125,7 +127,7 @@ pub type Devices<'a> = World<
 pub struct Holds<'a> {
     first: [[Hold<'a>; 2]; 2],
     second: [[Hold<'a>; 2]; 2],
-    link: [[Hold<'a>; 2]; 2],
+    link: [[Hold<'a>; 2]; 3],
     rests: [CountedWait<'a>; 1],
 }
 
@@ -140,7 +142,11 @@ impl<'a> Holds<'a> {
                 marks.holds(&case.second.giving),
                 marks.holds(&case.second.taking),
             ],
-            link: [marks.holds(&case.giving), marks.holds(&case.taking)],
+            link: [
+                marks.holds(&case.giving),
+                marks.holds(&case.taking),
+                marks.holds(&case.again),
+            ],
             rests: [CountedWait {
                 ms: REST,
                 mark: &marks.rested,
@@ -184,6 +190,7 @@ fn neighbor<'a>(
     };
     let second = ReadyLink::new(alloc, THEIRS, BYTES, QUIETS)?
         .quiet()
+        .giving(script(&case.again, &holds.link[2], &marks.other))
         .taking(free);
     let mut ready = Vec::new(alloc);
     ready.push(first)?;
