@@ -121,6 +121,10 @@ front_text TooLong = []
 abbrev pub refused_text : Line → Why → List ℕ
 refused_text line reason = codes " line refused, " ++ (cause_text reason ++ front_text line)
 
+-- how many further lines were refused
+abbrev pub left_out_text : ℕ → List ℕ
+left_out_text count = codes ", " ++ (decimal count ++ codes " more lines refused")
+
 -- what befalls a helper, behind its slot
 abbrev pub helper_event_text : HelperEvent → List ℕ
 helper_event_text (helper.Started inc run) = run_text (codes " started as ") inc run.now
@@ -128,7 +132,7 @@ helper_event_text (helper.NotStarted inc run) = run_text (codes " not started as
 helper_event_text (helper.Ended inc) = codes " ended as " ++ decimal inc
 helper_event_text helper.GivenUp = codes " given up"
 helper_event_text (helper.Refused line reason) = refused_text (line_told line) reason
-helper_event_text (helper.LeftOut count) = codes ", " ++ (decimal count ++ codes " more lines refused")
+helper_event_text (helper.LeftOut count) = left_out_text count
 
 -- what befalls the helper of a slot
 abbrev pub helper_text : ℕ → HelperEvent → List ℕ

@@ -1,5 +1,5 @@
 //! The front of a text that others wrote.
-ghost use Rattle.std.specs.Prelude.{◌≡◌, ◌+◌, ◌≤◌, ◌++◌, length, map};
+ghost use Rattle.std.specs.Prelude.{◌≡◌, ◌+◌, ◌≤◌, ◌++◌, length, map, take};
 ghost use Rattle.arrayvec.specs.ArrayVec.{array_vec_len};
 ghost use Rattle.daemon_log.specs.Excerpts.{excerpt, shown};
 
@@ -23,9 +23,19 @@ pub fn put_excerpt(text: &[u8], out: &mut Text)
     if text.len() <= MAX_EXCERPT {
         put_shown(text, out);
     } else {
-        put_shown(&text[..MAX_EXCERPT], out);
+        put_shown(front(text), out);
         put(b"...", out);
     }
+}
+
+// The first 200 bytes of a longer text.
+fn front(text: &[u8]) -> &[u8]
+    requires { MAX_EXCERPT ≤ length text.now }
+    ensures front { result.now ≡ take 200 text.now }
+    ensures len { length result.now ≡ 200 }
+{
+    let (front, _) = text.split_at(MAX_EXCERPT);
+    front
 }
 
 // Puts each byte as it shows.

@@ -3,7 +3,8 @@ ghost use Rattle.std.specs.Prelude.{◌≡◌, ◌+◌, ◌≤◌, ◌++◌, cod
 ghost use Rattle.arrayvec.specs.ArrayVec.{array_vec_len};
 ghost use Rattle.text_forms.specs.LineTold.{line_told};
 ghost use Rattle.daemon_log.specs.Excerpts.{excerpt};
-ghost use Rattle.daemon_log.specs.Texts.{cause_text, fault_text, helper_text, refused_text, run_text};
+ghost use Rattle.daemon_log.specs.Texts.{cause_text, fault_text, front_text, helper_text, left_out_text};
+ghost use Rattle.daemon_log.specs.Texts.{refused_text, run_text};
 
 use crate::excerpt::put_excerpt;
 use crate::putting::{REPORT_ROOM, Text, put};
@@ -28,12 +29,18 @@ pub fn put_helper(slot: usize, event: HelperEvent<'_>, out: &mut Text)
         }
         HelperEvent::GivenUp => put(b" given up", out),
         HelperEvent::Refused { line, why } => put_refused(line, why, out),
-        HelperEvent::LeftOut { count } => {
-            put(b", ", out);
-            put_u64(count, out);
-            put(b" more lines refused", out);
-        }
+        HelperEvent::LeftOut { count } => put_left_out(count, out),
     }
+}
+
+// Puts how many lines were refused and not told.
+fn put_left_out(count: u64, out: &mut Text)
+    requires { array_vec_len out.old + 50 ≤ REPORT_ROOM }
+    ensures { out.new.items ≡ out.old.items ++ left_out_text count }
+{
+    put(b", ", out);
+    put_u64(count, out);
+    put(b" more lines refused", out);
 }
 
 // Puts which incarnation it is, behind some words, and by which words it is started.
@@ -55,6 +62,14 @@ fn put_refused(line: Line<'_>, why: Why, out: &mut Text)
 {
     put(b" line refused, ", out);
     put_cause(why, out);
+    put_front(line, out);
+}
+
+// Puts the front of a line, where it is told.
+fn put_front(line: Line<'_>, out: &mut Text)
+    requires { array_vec_len out.old + 220 ≤ REPORT_ROOM }
+    ensures { out.new.items ≡ out.old.items ++ front_text (line_told line.entry) }
+{
     match line {
         Line::Text(text) => {
             put(b": ", out);

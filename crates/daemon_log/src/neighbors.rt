@@ -23,7 +23,7 @@ pub fn put_neighbor(addr: Addr, event: NeighborEvent, out: &mut Text)
             put_u32(rest, out);
             put(b" s", out);
         }
-        NeighborEvent::Up { caps, hold } => put_up(&caps, hold, out),
+        NeighborEvent::Up { caps, hold } => put_up(&caps, u32::from(hold), out),
         NeighborEvent::Down(ending) => {
             put(b" down, ", out);
             put_ending(ending, out);
@@ -36,17 +36,15 @@ pub fn put_neighbor(addr: Addr, event: NeighborEvent, out: &mut Text)
 }
 
 // Puts what a session carries, and its hold time.
-fn put_up(caps: &Caps, hold: u16, out: &mut Text)
+fn put_up(caps: &Caps, hold: u32, out: &mut Text)
     requires { array_vec_len out.old + 100 ≤ REPORT_ROOM }
     ensures { out.new.items ≡ out.old.items
         ++ (codes " up" ++ (caps_text caps.now ++ (codes ", hold time " ++ (decimal hold ++ codes " s")))) }
 {
     put(b" up", out);
-    put_family(caps, Family::Ipv4, b" ipv4", b" ipv4-path", out);
-    put_family(caps, Family::Ipv6, b" ipv6", b" ipv6-path", out);
-    put_extended(caps, out);
+    put_caps(caps, out);
     put(b", hold time ", out);
-    put_u32(u32::from(hold), out);
+    put_u32(hold, out);
     put(b" s", out);
 }
 
@@ -59,6 +57,17 @@ fn put_extended(caps: &Caps, out: &mut Text)
     if caps.extended() {
         put(b" extended", out);
     }
+}
+
+// Puts what a session carries, each word behind a space.
+fn put_caps(caps: &Caps, out: &mut Text)
+    requires { array_vec_len out.old + 30 ≤ REPORT_ROOM }
+    ensures text { out.new.items ≡ out.old.items ++ caps_text caps.now }
+    ensures short { array_vec_len out.new ≤ array_vec_len out.old + 30 }
+{
+    put_family(caps, Family::Ipv4, b" ipv4", b" ipv4-path", out);
+    put_family(caps, Family::Ipv6, b" ipv6", b" ipv6-path", out);
+    put_extended(caps, out);
 }
 
 // Puts a family that is carried by its word, and by another one where it has path identifiers.
