@@ -82,10 +82,7 @@ const LINES: [(Report<'static>, &str); 17] = [
         Report::Helper(3, HelperEvent::Ended { inc: 2 }),
         "helper 3 ended as 2",
     ),
-    (
-        Report::Helper(3, HelperEvent::GivenUp),
-        "helper 3 given up",
-    ),
+    (Report::Helper(3, HelperEvent::GivenUp), "helper 3 given up"),
     (
         Report::Helper(
             0,
@@ -133,7 +130,10 @@ fn a_long_line_is_told_by_its_front(rt: HostRuntime) {
     };
     let mut out = ArrayVec::new();
     put_report(&Report::Helper(15, refused), &mut out);
-    assert_eq!(rt; out.len(), b"helper 15 line refused, no-match: ".len() + 203);
+    assert_eq!(rt;
+        out.len(),
+        b"helper 15 line refused, no-match: ".len() + 203
+    );
     assert!(rt; out.ends_with(b"xxx..."));
 }
 
