@@ -1,4 +1,4 @@
--- The text of each report, without a line feed.
+-- The text of each line of the log, without its line feed.
 use Rattle.std.specs.Prelude.{ℕ, Bool, if◌then◌else◌, codes, decimal, List, [], ◌++◌, ◌∷◌}
 use Rattle.route_values.specs.declared.addr.Addr.{Addr}
 use Rattle.route_values.specs.declared.addr.Family.{Family}
@@ -16,16 +16,14 @@ use Rattle.book_history.specs.declared.outcomes.NotRead.{NotRead}
 use Rattle.book_history.specs.declared.outcomes.NotRead.TheVariants as not_read
 use Rattle.book_history.specs.declared.outcomes.Why.{Why}
 use Rattle.book_history.specs.declared.outcomes.Why.TheVariants as why
-use Rattle.daemon_log.specs.declared.report.DaemonEvent.{DaemonEvent}
-use Rattle.daemon_log.specs.declared.report.DaemonEvent.TheVariants as daemon
-use Rattle.daemon_log.specs.declared.report.Ending.{Ending}
-use Rattle.daemon_log.specs.declared.report.Ending.TheVariants as ending
-use Rattle.daemon_log.specs.declared.report.HelperEvent.{HelperEvent}
-use Rattle.daemon_log.specs.declared.report.HelperEvent.TheVariants as helper
-use Rattle.daemon_log.specs.declared.report.NeighborEvent.{NeighborEvent}
-use Rattle.daemon_log.specs.declared.report.NeighborEvent.TheVariants as neighbor
-use Rattle.daemon_log.specs.declared.report.Report.{Report}
-use Rattle.daemon_log.specs.declared.report.Report.TheVariants as report
+use Rattle.daemon_log.specs.declared.events.DaemonEvent.{DaemonEvent}
+use Rattle.daemon_log.specs.declared.events.DaemonEvent.TheVariants as daemon
+use Rattle.daemon_log.specs.declared.events.Ending.{Ending}
+use Rattle.daemon_log.specs.declared.events.Ending.TheVariants as ending
+use Rattle.daemon_log.specs.declared.events.HelperEvent.{HelperEvent}
+use Rattle.daemon_log.specs.declared.events.HelperEvent.TheVariants as helper
+use Rattle.daemon_log.specs.declared.events.NeighborEvent.{NeighborEvent}
+use Rattle.daemon_log.specs.declared.events.NeighborEvent.TheVariants as neighbor
 use Rattle.daemon_log.specs.Excerpts.{excerpt}
 use Rattle.daemon_log.specs.Names.{name_of}
 
@@ -45,9 +43,12 @@ not_read_text not_read.ReadFault = codes "reload not read"
 not_read_text (not_read.Refused fault) = codes "reload refused, " ++ fault_place_text fault
 not_read_text not_read.NoMemory = codes "reload without memory"
 
+-- that the daemon starts with the configuration at a path
+abbrev pub start_text : List ℕ → List ℕ
+start_text path = codes "exabgpd " ++ (codes "0.1.0" ++ (codes " starts with " ++ excerpt path))
+
 -- what befalls the daemon
 abbrev pub daemon_text : DaemonEvent → List ℕ
-daemon_text (daemon.Starts path) = codes "exabgpd " ++ (codes "0.1.0" ++ (codes " starts with " ++ excerpt path.now))
 daemon_text (daemon.Reloaded neighbors processes) = reloaded_text neighbors processes
 daemon_text (daemon.NotRead reason) = not_read_text reason
 daemon_text (daemon.Full number) = codes "reload full, " ++ (decimal number ++ codes " routes")
@@ -94,9 +95,18 @@ neighbor_event_text (neighbor.NotUp ending) = codes " not up, " ++ ending_text e
 abbrev pub neighbor_text : Addr → NeighborEvent → List ℕ
 neighbor_text addr event = codes "neighbor " ++ (addr_text addr ++ neighbor_event_text event)
 
--- an incarnation behind some words, and the words that it is started by
-abbrev pub run_text : List ℕ → ℕ → List ℕ → List ℕ
-run_text words inc run = words ++ (decimal inc ++ (codes ", " ++ excerpt run))
+-- which helper it is
+abbrev pub slot_text : ℕ → List ℕ
+slot_text slot = codes "helper " ++ decimal slot
+
+-- whether a helper was started
+abbrev pub begun_text : Bool → List ℕ
+begun_text started = if started then codes " started as " else codes " not started as "
+
+-- whether the helper of a slot was started, as which incarnation and by which words
+abbrev pub start_of_text : ℕ → Bool → ℕ → List ℕ → List ℕ
+start_of_text slot started inc run =
+    slot_text slot ++ (begun_text started ++ (decimal inc ++ (codes ", " ++ excerpt run)))
 
 -- the fault of a line
 abbrev pub fault_text : LineFault → List ℕ
@@ -117,9 +127,10 @@ abbrev pub front_text : Line → List ℕ
 front_text (Text bytes) = codes ": " ++ excerpt bytes
 front_text TooLong = []
 
--- a line that is refused
-abbrev pub refused_text : Line → Why → List ℕ
-refused_text line reason = codes " line refused, " ++ (cause_text reason ++ front_text line)
+-- a line of the helper of a slot that is refused
+abbrev pub refused_text : ℕ → Line → Why → List ℕ
+refused_text slot line reason =
+    slot_text slot ++ (codes " line refused, " ++ (cause_text reason ++ front_text line))
 
 -- how many further lines were refused
 abbrev pub left_out_text : ℕ → List ℕ
@@ -127,19 +138,10 @@ left_out_text count = codes ", " ++ (decimal count ++ codes " more lines refused
 
 -- what befalls a helper, behind its slot
 abbrev pub helper_event_text : HelperEvent → List ℕ
-helper_event_text (helper.Started inc run) = run_text (codes " started as ") inc run.now
-helper_event_text (helper.NotStarted inc run) = run_text (codes " not started as ") inc run.now
 helper_event_text (helper.Ended inc) = codes " ended as " ++ decimal inc
 helper_event_text helper.GivenUp = codes " given up"
-helper_event_text (helper.Refused line reason) = refused_text (line_told line) reason
 helper_event_text (helper.LeftOut count) = left_out_text count
 
 -- what befalls the helper of a slot
 abbrev pub helper_text : ℕ → HelperEvent → List ℕ
-helper_text slot event = codes "helper " ++ (decimal slot ++ helper_event_text event)
-
--- a report
-abbrev pub report_text : Report → List ℕ
-report_text (report.Daemon event) = daemon_text event
-report_text (report.Neighbor addr event) = neighbor_text addr event
-report_text (report.Helper slot event) = helper_text slot event
+helper_text slot event = slot_text slot ++ helper_event_text event

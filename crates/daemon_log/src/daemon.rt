@@ -1,11 +1,11 @@
 //! What befalls the daemon.
 ghost use Rattle.std.specs.Prelude.{◌≡◌, ◌+◌, ◌≤◌, ◌++◌};
 ghost use Rattle.arrayvec.specs.ArrayVec.{array_vec_len};
-ghost use Rattle.daemon_log.specs.Texts.{daemon_text, fault_place_text, not_read_text, reloaded_text};
+ghost use Rattle.daemon_log.specs.Texts.{daemon_text, fault_place_text, not_read_text, reloaded_text, start_text};
 
+use crate::events::DaemonEvent;
 use crate::excerpt::put_excerpt;
 use crate::putting::{REPORT_ROOM, Text, put};
-use crate::report::DaemonEvent;
 use book_history::NotRead;
 use config_model::ConfigFault;
 use text_forms::{put_u32, put_u64};
@@ -13,18 +13,24 @@ use text_forms::{put_u32, put_u64};
 /// The program's version.
 pub const VERSION: &str = "0.1.0";
 
-// Puts what befalls the daemon.
-pub fn put_daemon(event: DaemonEvent<'_>, out: &mut Text)
-    requires { array_vec_len out.old ≡ 0 }
-    ensures { out.new.items ≡ out.old.items ++ daemon_text event.entry }
+/// Puts that the daemon starts with the configuration at a path, without a line feed, in the place of what the buffer
+/// holds.
+pub fn put_start(path: &str, out: &mut Text)
+    ensures { out.new.items ≡ start_text path.now }
 {
+    out.clear();
+    put(b"exabgpd ", out);
+    put(VERSION.as_bytes(), out);
+    put(b" starts with ", out);
+    put_excerpt(path.as_bytes(), out);
+}
+
+/// Puts what befalls the daemon, in the same way.
+pub fn put_daemon(event: DaemonEvent, out: &mut Text)
+    ensures { out.new.items ≡ daemon_text event }
+{
+    out.clear();
     match event {
-        DaemonEvent::Starts { path } => {
-            put(b"exabgpd ", out);
-            put(VERSION.as_bytes(), out);
-            put(b" starts with ", out);
-            put_excerpt(path.as_bytes(), out);
-        }
         DaemonEvent::Reloaded {
             neighbors,
             processes,

@@ -7,21 +7,25 @@
 #![tactic(auto)]
 
 mod daemon;
+mod events;
 mod excerpt;
 mod helpers;
 mod limit;
 mod names;
 mod neighbors;
 mod putting;
-mod report;
 mod telling;
 
-pub use daemon::VERSION;
+pub use daemon::{VERSION, put_daemon, put_start};
+pub use events::{DaemonEvent, Ending, HelperEvent, NeighborEvent};
 pub use excerpt::MAX_EXCERPT;
+pub use helpers::{put_helper, put_refused, put_start_of};
 pub use limit::{Limit, MAX_TOLD, Ruling, SPAN};
+pub use neighbors::put_neighbor;
 pub use putting::REPORT_ROOM;
-pub use report::{DaemonEvent, Ending, HelperEvent, NeighborEvent, Report};
-pub use telling::{put_report, tell};
+pub use telling::{
+    tell_daemon, tell_helper, tell_neighbor, tell_refused, tell_start, tell_start_of,
+};
 
 #[cfg(test)]
 mod tests;

@@ -1,21 +1,30 @@
 //! What befalls a neighbour.
 ghost use Rattle.std.specs.Prelude.{◌≡◌, ◌+◌, ◌≤◌, ◌++◌, codes, decimal, length};
 ghost use Rattle.arrayvec.specs.ArrayVec.{array_vec_len};
-ghost use Rattle.daemon_log.specs.Texts.{caps_text, ending_text, extended_text, family_text, neighbor_text, notification_text};
+ghost use Rattle.daemon_log.specs.Texts.{caps_text, ending_text, extended_text, family_text};
+ghost use Rattle.daemon_log.specs.Texts.{neighbor_event_text, neighbor_text, notification_text};
 
+use crate::events::{Ending, NeighborEvent};
 use crate::names::name_of;
 use crate::putting::{REPORT_ROOM, Text, put};
-use crate::report::{Ending, NeighborEvent};
 use route_values::{Addr, Caps, Family};
 use text_forms::{put_addr, put_u32};
 
-// Puts what befalls the neighbour at an address.
+/// Puts what befalls the neighbour at an address, without a line feed, in the place of what the buffer holds.
 pub fn put_neighbor(addr: Addr, event: NeighborEvent, out: &mut Text)
-    requires { array_vec_len out.old ≡ 0 }
-    ensures { out.new.items ≡ out.old.items ++ neighbor_text addr event }
+    ensures { out.new.items ≡ neighbor_text addr event }
 {
+    out.clear();
     put(b"neighbor ", out);
     put_addr(addr, out);
+    put_event(event, out);
+}
+
+// Puts what befalls a neighbour, behind its address.
+fn put_event(event: NeighborEvent, out: &mut Text)
+    requires { array_vec_len out.old + 150 ≤ REPORT_ROOM }
+    ensures { out.new.items ≡ out.old.items ++ neighbor_event_text event }
+{
     match event {
         NeighborEvent::Connecting => put(b" connecting", out),
         NeighborEvent::NotConnected { rest } => {

@@ -1,35 +1,59 @@
-//! Lines of the log.
-ghost use Rattle.std.specs.Prelude.{◌≡◌};
-ghost use Rattle.daemon_log.specs.Texts.{report_text};
+//! Records of the log. Nothing is promised of what becomes of one.
 
-use crate::daemon::put_daemon;
-use crate::helpers::put_helper;
+use crate::daemon::{put_daemon, put_start};
+use crate::events::{DaemonEvent, HelperEvent, NeighborEvent};
+use crate::helpers::{put_helper, put_refused, put_start_of};
 use crate::neighbors::put_neighbor;
 use crate::putting::Text;
-use crate::report::{DaemonEvent, HelperEvent, NeighborEvent, Report};
+use book_history::Why;
 use log::{Level, Log, log};
+use route_values::Addr;
 use std::str;
+use text_forms::Line;
 
 // What the records are about, as the kit's log asks to be told.
 const TARGET: &str = "exabgpd";
 
-/// Puts a report's text, without a line feed, in the place of what the buffer holds.
-pub fn put_report(report: &Report<'_>, out: &mut Text)
-    ensures { out.new.items ≡ report_text report.now }
-{
-    out.clear();
-    match *report {
-        Report::Daemon(event) => put_daemon(event, out),
-        Report::Neighbor(addr, event) => put_neighbor(addr, event, out),
-        Report::Helper(slot, event) => put_helper(slot, event, out),
-    }
+/// Logs that the daemon starts with the configuration at a path.
+pub fn tell_start<R: Log>(rt: &R, path: &str) {
+    let mut text = Text::new();
+    put_start(path, &mut text);
+    say(rt, Level::Info, &text);
 }
 
-/// Logs a report as one record. Nothing is promised of what becomes of it.
-pub fn tell<R: Log>(rt: &R, report: &Report<'_>) {
+/// Logs what befalls the daemon: an error where a configuration isn't read.
+pub fn tell_daemon<R: Log>(rt: &R, event: DaemonEvent) {
     let mut text = Text::new();
-    put_report(report, &mut text);
-    say(rt, level_of(report), &text);
+    put_daemon(event, &mut text);
+    say(rt, daemon_level(event), &text);
+}
+
+/// Logs what befalls a neighbour: a warning where no session stands.
+pub fn tell_neighbor<R: Log>(rt: &R, addr: Addr, event: NeighborEvent) {
+    let mut text = Text::new();
+    put_neighbor(addr, event, &mut text);
+    say(rt, neighbor_level(event), &text);
+}
+
+/// Logs what befalls a helper: a warning, or an error where it isn't started again.
+pub fn tell_helper<R: Log>(rt: &R, slot: usize, event: HelperEvent) {
+    let mut text = Text::new();
+    put_helper(slot, event, &mut text);
+    say(rt, helper_level(event), &text);
+}
+
+/// Logs whether a helper was started, an error where it wasn't.
+pub fn tell_start_of<R: Log>(rt: &R, slot: usize, started: bool, inc: u64, run: &[u8]) {
+    let mut text = Text::new();
+    put_start_of(slot, started, inc, run, &mut text);
+    say(rt, start_level(started), &text);
+}
+
+/// Logs that a line of a helper is refused, a warning.
+pub fn tell_refused<R: Log>(rt: &R, slot: usize, line: Line<'_>, why: Why) {
+    let mut text = Text::new();
+    put_refused(slot, line, why, &mut text);
+    say(rt, Level::Warn, &text);
 }
 
 // Logs a text. All texts are ASCII.
@@ -41,25 +65,16 @@ fn say<R: Log>(rt: &R, level: Level, text: &[u8]) {
 }
 
 // An error is what somebody has to mend, and a warning what may pass.
-fn level_of(report: &Report<'_>) -> Level {
-    match report {
-        Report::Daemon(event) => daemon_level(event),
-        Report::Neighbor(_, event) => neighbor_level(event),
-        Report::Helper(_, event) => helper_level(event),
-    }
-}
-
-fn daemon_level(event: &DaemonEvent<'_>) -> Level {
+fn daemon_level(event: DaemonEvent) -> Level {
     match event {
-        DaemonEvent::Starts { .. }
-        | DaemonEvent::Reloaded { .. }
-        | DaemonEvent::Stopping
-        | DaemonEvent::Ends { .. } => Level::Info,
+        DaemonEvent::Reloaded { .. } | DaemonEvent::Stopping | DaemonEvent::Ends { .. } => {
+            Level::Info
+        }
         DaemonEvent::NotRead(_) | DaemonEvent::Full(_) | DaemonEvent::NoMemory => Level::Error,
     }
 }
 
-fn neighbor_level(event: &NeighborEvent) -> Level {
+fn neighbor_level(event: NeighborEvent) -> Level {
     match event {
         NeighborEvent::Connecting | NeighborEvent::Up { .. } => Level::Info,
         NeighborEvent::NotConnected { .. } | NeighborEvent::Down(_) | NeighborEvent::NotUp(_) => {
@@ -68,12 +83,13 @@ fn neighbor_level(event: &NeighborEvent) -> Level {
     }
 }
 
-fn helper_level(event: &HelperEvent<'_>) -> Level {
+fn helper_level(event: HelperEvent) -> Level {
     match event {
-        HelperEvent::Started { .. } => Level::Info,
-        HelperEvent::Ended { .. } | HelperEvent::Refused { .. } | HelperEvent::LeftOut { .. } => {
-            Level::Warn
-        }
-        HelperEvent::NotStarted { .. } | HelperEvent::GivenUp => Level::Error,
+        HelperEvent::Ended { .. } | HelperEvent::LeftOut { .. } => Level::Warn,
+        HelperEvent::GivenUp => Level::Error,
     }
+}
+
+fn start_level(started: bool) -> Level {
+    if started { Level::Info } else { Level::Error }
 }

@@ -1,24 +1,10 @@
 //! What is told.
-use book_history::{NotRead, Why};
-use route_values::{Addr, Caps};
-use text_forms::Line;
+use book_history::NotRead;
+use route_values::Caps;
 
-/// What the log tells.
-#[derive(Clone, Copy, Debug)]
-pub enum Report<'a> {
-    /// Of the daemon as a whole.
-    Daemon(DaemonEvent<'a>),
-    /// Of the neighbour at an address.
-    Neighbor(Addr, NeighborEvent),
-    /// Of the helper slot of a number.
-    Helper(usize, HelperEvent<'a>),
-}
-
-/// What befalls the daemon.
-#[derive(Clone, Copy, Debug)]
-pub enum DaemonEvent<'a> {
-    /// It starts with the configuration in the file at this path.
-    Starts { path: &'a str },
+/// What befalls the daemon as a whole.
+#[derive(Clone, Copy, Debug, PartialEq, Eq)]
+pub enum DaemonEvent {
     /// It has read its configuration again, which has so many neighbours and processes.
     Reloaded { neighbors: usize, processes: usize },
     /// There is no new configuration, and the old one stands.
@@ -34,7 +20,7 @@ pub enum DaemonEvent<'a> {
 }
 
 /// What befalls a neighbour.
-#[derive(Clone, Copy, Debug)]
+#[derive(Clone, Copy, Debug, PartialEq, Eq)]
 pub enum NeighborEvent {
     /// It is dialled.
     Connecting,
@@ -60,18 +46,12 @@ pub enum Ending {
 }
 
 /// What befalls a helper.
-#[derive(Clone, Copy, Debug)]
-pub enum HelperEvent<'a> {
-    /// It was started as this incarnation, by these words, joined by zero bytes.
-    Started { inc: u64, run: &'a [u8] },
-    /// It couldn't be started.
-    NotStarted { inc: u64, run: &'a [u8] },
-    /// It has ended.
+#[derive(Clone, Copy, Debug, PartialEq, Eq)]
+pub enum HelperEvent {
+    /// This incarnation of it has ended.
     Ended { inc: u64 },
     /// It isn't started again.
     GivenUp,
-    /// A line of it is refused.
-    Refused { line: Line<'a>, why: Why },
     /// So many further lines of it were refused, and aren't told one by one.
     LeftOut { count: u64 },
 }
