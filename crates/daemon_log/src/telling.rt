@@ -23,30 +23,34 @@ pub fn tell_start<R: Log>(rt: &R, path: &str) {
 
 /// Logs what befalls the daemon: an error where a configuration isn't read.
 pub fn tell_daemon<R: Log>(rt: &R, event: DaemonEvent) {
+    let level = daemon_level(event);
     let mut text = Text::new();
     put_daemon(event, &mut text);
-    say(rt, daemon_level(event), &text);
+    say(rt, level, &text);
 }
 
 /// Logs what befalls a neighbour: a warning where no session stands.
 pub fn tell_neighbor<R: Log>(rt: &R, addr: Addr, event: NeighborEvent) {
+    let level = neighbor_level(event);
     let mut text = Text::new();
     put_neighbor(addr, event, &mut text);
-    say(rt, neighbor_level(event), &text);
+    say(rt, level, &text);
 }
 
 /// Logs what befalls a helper: a warning, or an error where it isn't started again.
 pub fn tell_helper<R: Log>(rt: &R, slot: usize, event: HelperEvent) {
+    let level = helper_level(event);
     let mut text = Text::new();
     put_helper(slot, event, &mut text);
-    say(rt, helper_level(event), &text);
+    say(rt, level, &text);
 }
 
 /// Logs whether a helper was started, an error where it wasn't.
 pub fn tell_start_of<R: Log>(rt: &R, slot: usize, started: bool, inc: u64, run: &[u8]) {
+    let level = start_level(started);
     let mut text = Text::new();
     put_start_of(slot, started, inc, run, &mut text);
-    say(rt, start_level(started), &text);
+    say(rt, level, &text);
 }
 
 /// Logs that a line of a helper is refused, a warning.
