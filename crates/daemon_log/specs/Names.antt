@@ -9,7 +9,8 @@ named ((n, name) ∷ more) other number = if number == n then name else named mo
 -- the faults of a message's header
 abbrev pub header_name : ℕ → List ℕ
 header_name =
-    named ((1, codes "connection not synchronized") ∷ (2, codes "bad message length") ∷ (3, codes "bad message type") ∷ [])
+    named ((1, codes "connection not synchronized") ∷ (2, codes "bad message length") ∷
+    (3, codes "bad message type") ∷ [])
     (codes "message header error")
 
 -- the faults of an OPEN
@@ -24,8 +25,8 @@ open_name =
 abbrev pub update_name : ℕ → List ℕ
 update_name =
     named ((1, codes "malformed attribute list") ∷ (2, codes "unrecognized well-known attribute") ∷
-    (3, codes "missing well-known attribute") ∷ (4, codes "attribute flags error") ∷ (5, codes "attribute length error") ∷
-    (6, codes "invalid ORIGIN attribute") ∷ (8, codes "invalid NEXT_HOP attribute") ∷
+    (3, codes "missing well-known attribute") ∷ (4, codes "attribute flags error") ∷
+    (5, codes "attribute length error") ∷ (6, codes "invalid ORIGIN attribute") ∷ (8, codes "invalid NEXT_HOP attribute") ∷
     (9, codes "optional attribute error") ∷ (10, codes "invalid network field") ∷ (11, codes "malformed AS_PATH") ∷ [])
     (codes "UPDATE message error")
 
@@ -34,7 +35,8 @@ abbrev pub cease_name : ℕ → List ℕ
 cease_name =
     named ((1, codes "maximum number of prefixes reached") ∷ (2, codes "administrative shutdown") ∷
     (3, codes "peer de-configured") ∷ (4, codes "administrative reset") ∷ (5, codes "connection rejected") ∷
-    (6, codes "other configuration change") ∷ (7, codes "connection collision resolution") ∷ (8, codes "out of resources") ∷ [])
+    (6, codes "other configuration change") ∷ (7, codes "connection collision resolution") ∷
+    (8, codes "out of resources") ∷ [])
     (codes "cease")
 
 -- a code and subcode; a subcode that none has goes by its code

@@ -82,12 +82,15 @@ ending_text (ending.Sent code sub) = codes "sent " ++ notification_text code sub
 ending_text (ending.Received code sub) = codes "received " ++ notification_text code sub
 ending_text ending.Lost = codes "link lost"
 
+-- what a session that is up carries, and its hold time
+abbrev pub up_text : Caps → ℕ → List ℕ
+up_text caps hold = codes " up" ++ (caps_text caps ++ (codes ", hold time " ++ (decimal hold ++ codes " s")))
+
 -- what befalls a neighbour, behind its address
 abbrev pub neighbor_event_text : NeighborEvent → List ℕ
 neighbor_event_text neighbor.Connecting = codes " connecting"
 neighbor_event_text (neighbor.NotConnected rest) = codes " not connected, again in " ++ (decimal rest ++ codes " s")
-neighbor_event_text (neighbor.Up caps hold) =
-    codes " up" ++ (caps_text caps ++ (codes ", hold time " ++ (decimal hold ++ codes " s")))
+neighbor_event_text (neighbor.Up caps hold) = up_text caps hold
 neighbor_event_text (neighbor.Down ending) = codes " down, " ++ ending_text ending
 neighbor_event_text (neighbor.NotUp ending) = codes " not up, " ++ ending_text ending
 

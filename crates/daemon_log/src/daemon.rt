@@ -1,7 +1,8 @@
 //! What befalls the daemon.
 ghost use Rattle.std.specs.Prelude.{◌≡◌, ◌+◌, ◌≤◌, ◌++◌};
 ghost use Rattle.arrayvec.specs.ArrayVec.{array_vec_len};
-ghost use Rattle.daemon_log.specs.Texts.{daemon_text, fault_place_text, not_read_text, reloaded_text, start_text};
+ghost use Rattle.daemon_log.specs.Texts.{daemon_text, fault_place_text, not_read_text};
+ghost use Rattle.daemon_log.specs.Texts.{reloaded_text, start_text};
 
 use crate::events::DaemonEvent;
 use crate::excerpt::put_excerpt;

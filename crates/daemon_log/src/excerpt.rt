@@ -13,8 +13,8 @@ const FIRST: u8 = b' ';
 
 const LAST: u8 = b'~';
 
-// Puts the first 200 bytes of a text, and dots where that isn't all. A byte below the space, as the zero byte that
-// parts words, shows as a space, and one past ASCII's printable bytes as a dot.
+/// Puts the first 200 bytes of a text, and dots where that isn't all. A byte below the space, as the zero byte that
+/// parts words, shows as a space, and one past ASCII's printable bytes as a dot.
 pub fn put_excerpt(text: &[u8], out: &mut Text)
     requires { array_vec_len out.old + 203 ≤ REPORT_ROOM }
     ensures text { out.new.items ≡ out.old.items ++ excerpt text.now }

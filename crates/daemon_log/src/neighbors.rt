@@ -2,7 +2,8 @@
 ghost use Rattle.std.specs.Prelude.{◌≡◌, ◌+◌, ◌≤◌, ◌++◌, codes, decimal, length};
 ghost use Rattle.arrayvec.specs.ArrayVec.{array_vec_len};
 ghost use Rattle.daemon_log.specs.Texts.{caps_text, ending_text, extended_text, family_text};
-ghost use Rattle.daemon_log.specs.Texts.{neighbor_event_text, neighbor_text, notification_text};
+ghost use Rattle.daemon_log.specs.Texts.{neighbor_event_text, neighbor_text};
+ghost use Rattle.daemon_log.specs.Texts.{notification_text, up_text};
 
 use crate::events::{Ending, NeighborEvent};
 use crate::names::name_of;
@@ -47,8 +48,7 @@ fn put_event(event: NeighborEvent, out: &mut Text)
 // Puts what a session carries, and its hold time.
 fn put_up(caps: &Caps, hold: u32, out: &mut Text)
     requires { array_vec_len out.old + 100 ≤ REPORT_ROOM }
-    ensures { out.new.items ≡ out.old.items
-        ++ (codes " up" ++ (caps_text caps.now ++ (codes ", hold time " ++ (decimal hold ++ codes " s")))) }
+    ensures { out.new.items ≡ out.old.items ++ up_text caps.now hold }
 {
     put(b" up", out);
     put_caps(caps, out);
