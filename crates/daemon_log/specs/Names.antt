@@ -26,7 +26,8 @@ abbrev pub update_name : ℕ → List ℕ
 update_name =
     named ((1, codes "malformed attribute list") ∷ (2, codes "unrecognized well-known attribute") ∷
     (3, codes "missing well-known attribute") ∷ (4, codes "attribute flags error") ∷
-    (5, codes "attribute length error") ∷ (6, codes "invalid ORIGIN attribute") ∷ (8, codes "invalid NEXT_HOP attribute") ∷
+    (5, codes "attribute length error") ∷ (6, codes "invalid ORIGIN attribute") ∷
+    (8, codes "invalid NEXT_HOP attribute") ∷
     (9, codes "optional attribute error") ∷ (10, codes "invalid network field") ∷ (11, codes "malformed AS_PATH") ∷ [])
     (codes "UPDATE message error")
 

@@ -4,7 +4,8 @@ ghost use Rattle.arrayvec.specs.ArrayVec.{array_vec_len};
 ghost use Rattle.text_forms.specs.LineTold.{line_told};
 ghost use Rattle.daemon_log.specs.Excerpts.{excerpt};
 ghost use Rattle.daemon_log.specs.Texts.{begun_text, cause_text, fault_text, front_text};
-ghost use Rattle.daemon_log.specs.Texts.{helper_text, left_out_text, refused_text, slot_text, start_of_text};
+ghost use Rattle.daemon_log.specs.Texts.{helper_text, left_out_text, refused_text};
+ghost use Rattle.daemon_log.specs.Texts.{slot_text, start_of_text};
 
 use crate::events::HelperEvent;
 use crate::excerpt::put_excerpt;

@@ -2,8 +2,8 @@
 //!
 //! The text of each kind of line is defined in `specs`. A line of a helper that is refused is told by its front, and
 //! at most 20 of them in a second. The crate stands on book_history (why a line is refused, what became of a file),
-//! config_model and route_grammar (faults), text_forms (numbers and addresses) and the kit's log. It promises nothing of
-//! where a line goes, and reads no clock.
+//! config_model and route_grammar (faults), text_forms (numbers and addresses) and the kit's log. It promises nothing
+//! of where a line goes, and reads no clock.
 #![tactic(auto)]
 
 mod daemon;
