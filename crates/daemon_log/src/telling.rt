@@ -31,7 +31,7 @@ pub fn tell_daemon<R: Log>(rt: &R, event: DaemonEvent) {
 
 /// Logs what befalls a neighbour: a warning where no session stands.
 pub fn tell_neighbor<R: Log>(rt: &R, addr: Addr, event: NeighborEvent) {
-    let level = neighbor_level(event);
+    let level = neighbor_level(&event);
     let mut text = Text::new();
     put_neighbor(addr, event, &mut text);
     say(rt, level, &text);
@@ -78,7 +78,7 @@ fn daemon_level(event: DaemonEvent) -> Level {
     }
 }
 
-fn neighbor_level(event: NeighborEvent) -> Level {
+fn neighbor_level(event: &NeighborEvent) -> Level {
     match event {
         NeighborEvent::Connecting | NeighborEvent::Up { .. } => Level::Info,
         NeighborEvent::NotConnected { .. } | NeighborEvent::Down(_) | NeighborEvent::NotUp(_) => {
