@@ -1,12 +1,11 @@
 -- The text of each line of the log, without its line feed.
-use Rattle.std.specs.Prelude.{ℕ, Bool, if◌then◌else◌, codes, decimal, List, [], ◌++◌, ◌∷◌}
+use Rattle.std.specs.Prelude.{ℕ, Bool, if◌then◌else◌, codes, decimal, List, [], ◌++◌}
 use Rattle.route_values.specs.declared.addr.Addr.{Addr}
 use Rattle.route_values.specs.declared.addr.Family.{Family}
 use Rattle.route_values.specs.declared.addr.Family.TheVariants as family
 use Rattle.route_values.specs.Caps.{Caps}
 use Rattle.route_values.specs.Visible.{has_family, has_path}
 use Rattle.text_forms.specs.Lines.{Line, Text, TooLong}
-use Rattle.text_forms.specs.LineTold.{line_told}
 use Rattle.text_forms.specs.Printed.{addr_text}
 use Rattle.route_grammar.specs.declared.fault.LineFault.{LineFault}
 use Rattle.route_grammar.specs.declared.fault.LineFault.TheVariants as fault
