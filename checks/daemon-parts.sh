@@ -53,7 +53,8 @@ within() {
   done
 }
 
-# Counts whether a command succeeds within so many seconds, and says what was looked for where it doesn't.
+# Counts whether a command succeeds within so many seconds. Where it doesn't, says what was looked for, and what the logs
+# told last.
 sees() {
   local what=$1
   shift
@@ -62,6 +63,7 @@ sees() {
   else
     failed=$((failed + 1))
     echo "${0##*/}: not seen within $1 s: $what"
+    tail -n 8 ./*.log daemon.err
   fi
 }
 

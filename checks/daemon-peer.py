@@ -36,6 +36,7 @@ EXTENDED_LENGTH = 0x10
 IPV4, IPV6 = 1, 2
 BITS = {IPV4: 32, IPV6: 128}
 QUIET = 0.1
+PIECE = 65536
 
 
 class Ended(Exception):
@@ -159,7 +160,7 @@ class Session:
         if not select.select([self.stream], [], [], QUIET)[0]:
             self.tell_count()
             return
-        data = self.stream.recv(1 << 20)
+        data = self.stream.recv(PIECE)
         if not data:
             raise Ended
         self.pending += data
