@@ -10,7 +10,6 @@ mod place;
 mod worker;
 mod working;
 
-pub use marking::mark;
 pub use place::Place;
 pub use worker::Worker;
-pub use working::work_beside;
+pub use working::{Worked, work};

@@ -1,4 +1,5 @@
 //! The kinds of jobs.
+ghost use Rattle.crew.specs.Views.{job_of};
 ghost use Rattle.crew.specs.Works.{IsOff, Works};
 ghost use Rattle.helper_worker.specs.Rounds.{told as told_by};
 ghost use Rattle.peer_worker.specs.Rounds.{told};
@@ -31,10 +32,10 @@ impl<'g, F: Files, S: Spawner, D: Dialer, E: Ear, C: Clock, P: Pause, N: GateNam
 > {
     /// Does the job, until the daemon is to end.
     pub fn run<R: Wait>(&mut self, rt: &R)
-        ensures { Works F.content F.faults
+        ensures { Works F.content F.faults F.lent
             (λ spawner. told_by (S.children spawner) (S.asked spawner) (S.failed spawner))
             (λ dialer. told (D.links dialer) (D.asked dialer) (D.failed dialer))
-            C.moments self.old self.new }
+            C.moments (job_of self.old) (job_of self.new) }
     {
         match self {
             Worker::Reading(reader) => reader.run(rt),
@@ -46,7 +47,7 @@ impl<'g, F: Files, S: Spawner, D: Dialer, E: Ear, C: Clock, P: Pause, N: GateNam
 
     /// Ends the daemon in place of the job.
     pub fn call_off<R: Wait>(&mut self, rt: &R)
-        ensures { IsOff self.old self.new }
+        ensures { IsOff (job_of self.old) (job_of self.new) }
     {
         match self {
             Worker::Reading(reader) => reader.call_off(rt),

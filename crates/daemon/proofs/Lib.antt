@@ -1,0 +1,4 @@
+pub mod EnteredLemmas
+pub mod JoinedLemmas
+pub mod LawLemmas
+pub mod RanLemmas

@@ -1,8 +1,8 @@
 -- What a history says of the workers that made it, by the names of its entries.
-use Rattle.std.specs.Prelude.{ℕ, ◌≡◌, ◌+◌, ◌×◌, ◌⊎◌, ◌<◌, Bool, true, false, List, [], ◌∷◌, ◌++◌, length, reverse, slice_index_or, Contains}
+use Rattle.std.specs.Prelude.{ℕ, ◌≡◌, ◌+◌, ◌⊎◌, ◌<◌, Bool, true, false, List, [], ◌∷◌, ◌++◌, length, map, reverse, slice_index_or, Contains}
 use Rattle.std.specs.List.{All, flat_map}
 use Rattle.std.specs.declared.option.Option.{Option}
-use Rattle.std.specs.declared.option.Option.TheVariants.{Some}
+use Rattle.std.specs.declared.option.Option.TheVariants.{Some, None}
 use Rattle.arrayvec.specs.ArrayVec.{ArrayVec}
 use Rattle.outside.specs.Moments.{MayRead}
 use Rattle.config_model.specs.Sections.{Sections}
@@ -17,13 +17,14 @@ use Rattle.book_history.specs.Legal.{Allows}
 use Rattle.book_history.specs.declared.outcomes.Spawn.TheVariants as spawn
 use Rattle.control_worker.specs.Rounds.{IsFiled, counted_behind, stop_told, Round as Keeping, entries_of as kept_by}
 use Rattle.helper_worker.specs.Handing.{HasStop, under, writer_of}
-use Rattle.helper_worker.specs.Rounds.{Ends, IsBackBy, IsRound, Tells, Told as Spawning, Round as Reading, entries_of as read_by}
+use Rattle.helper_worker.specs.Rounds.{Ends, IsBackBy, IsRound, Tells, Told as Spawning, told as spawning_told, Round as Reading, entries_of as read_by}
 use Rattle.helper_worker.specs.Rounds.Outcome.{Heard}
 use Rattle.helper_worker.specs.Rounds.Round.{Start}
 use Rattle.helper_worker.specs.Serving.{IsServed, Rises, Served, entries_in}
-use Rattle.peer_worker.specs.Rounds.{IsGood, Told as Dialling, Tells as Dials, Round as Talking, entries_of as talked_by, stopping}
+use Rattle.peer_worker.specs.Rounds.{IsGood, Told as Dialling, told as dialling_told, Tells as Dials, Round as Talking, entries_of as talked_by, stopping}
 use Rattle.script_play.specs.declared.status.Status.{Status}
 use Rattle.script_play.specs.declared.status.Status.TheVariants as status_is
+use Rattle.daemon.specs.Done.{IfRun}
 use Rattle.daemon.specs.Names.{IsWorker, keeper_of, reader_of, talker_of}
 
 -- a reader's entries are those of rounds, and last that the daemon ends; its spawner tells them; and each sink came back
@@ -82,45 +83,59 @@ pub record IsHistory (content : Option (List ℕ → List ℕ)) (path : List ℕ
   pub legal : IsLegal (λ start entries entry. Allows start (reverse entries) entry) last
   pub named : (made : Signed Entry) → Contains last.seen made → IsWorker slots.helpers slots.peers made.name
 
--- what the slots' devices told before and after, and which workers were called off, by the order of their names
+-- what the devices tell: the moments that the clock may read, each slot's spawner and dialer, and the files' count
 pub record Devices : Type 0 where
   pub moments : Option (ℕ → Bool)
-  pub spawning : ℕ → Spawning
-  pub dialling : ℕ → Dialling
+  pub spawning : List Spawning
+  pub dialling : List Dialling
   pub faults : ℕ
 
+abbrev pub devices : {S D : Type 0} → (S → Spawning) → (D → Dialling) → Option (ℕ → Bool) → List S → List D → ℕ → Devices
+devices spawning dialling moments helpers peers faults = record {
+  moments = moments;
+  spawning = map spawning helpers;
+  dialling = map dialling peers;
+  faults = faults;
+}
+
+-- what the spawner of a slot tells, and the dialer of one
+abbrev pub spawning_at : Devices → ℕ → Spawning
+spawning_at told h = slice_index_or told.spawning h (spawning_told None None None)
+
+abbrev pub dialling_at : Devices → ℕ → Dialling
+dialling_at told n = slice_index_or told.dialling n (dialling_told None None None)
+
 module _ (refused : ℕ → Bool) (old new : Devices) (content : Option (List ℕ → List ℕ)) (path : List ℕ) (slots : Slots)
-    (last : Known Sections Entry) where
+    (seen : List (Signed Entry)) where
+  -- each worker ran to its end, or was called off where it was refused
   abbrev pub ReaderEnds : ℕ → Type 0
   ReaderEnds h =
-      ((refused (h + h) ≡ false) × ReaderRan h old.moments (old.spawning h) (new.spawning h) last.seen)
-      ⊎ ((refused (h + h) ≡ true) × IsCalledOff (reader_of h) last.seen × (new.spawning h ≡ old.spawning h))
+      IfRun (refused (h + h)) (ReaderRan h old.moments (spawning_at old h) (spawning_at new h) seen)
+      (IsCalledOff (reader_of h) seen × (spawning_at new h ≡ spawning_at old h))
 
   abbrev pub ReplierEnds : ℕ → Type 0
-  ReplierEnds h =
-      ((refused (h + h + 1) ≡ false) × ReplierRan h last.seen) ⊎ ((refused (h + h + 1) ≡ true) × IsReplierOff h last.seen)
+  ReplierEnds h = IfRun (refused (h + h + 1)) (ReplierRan h seen) (IsReplierOff h seen)
 
   abbrev pub TalkerEnds : ℕ → Type 0
   TalkerEnds n =
-      ((refused (slots.helpers + slots.helpers + n) ≡ false)
-      × TalkerRan slots.helpers n (old.dialling n) (new.dialling n) last.seen)
-      ⊎ ((refused (slots.helpers + slots.helpers + n) ≡ true) × IsCalledOff (talker_of slots.helpers n) last.seen
-      × (new.dialling n ≡ old.dialling n))
+      IfRun (refused (slots.helpers + slots.helpers + n))
+      (TalkerRan slots.helpers n (dialling_at old n) (dialling_at new n) seen)
+      (IsCalledOff (talker_of slots.helpers n) seen × (dialling_at new n ≡ dialling_at old n))
 
   abbrev pub KeeperEnds : Type 0
   KeeperEnds =
-      ((refused (slots.helpers + slots.helpers + slots.peers) ≡ false)
-      × KeeperRan content path slots old.faults new.faults last.seen)
-      ⊎ ((refused (slots.helpers + slots.helpers + slots.peers) ≡ true)
-      × IsCalledOff (keeper_of slots.helpers slots.peers) last.seen × (new.faults ≡ old.faults))
+      IfRun (refused (slots.helpers + slots.helpers + slots.peers))
+      (KeeperRan content path slots old.faults new.faults seen)
+      (IsCalledOff (keeper_of slots.helpers slots.peers) seen × (new.faults ≡ old.faults))
 
-  -- each worker ran to its end or was called off
-  pub record IsRun : Type 0 where
-    pub history : IsHistory content path slots last
-    pub readers : (h : ℕ) → h < slots.helpers → ReaderEnds h
-    pub repliers : (h : ℕ) → h < slots.helpers → ReplierEnds h
-    pub talkers : (n : ℕ) → n < slots.peers → TalkerEnds n
-    pub keeper : KeeperEnds
+-- a history from the configuration of the file, which is that of the workers of all slots
+pub record IsRun (refused : ℕ → Bool) (old new : Devices) (content : Option (List ℕ → List ℕ)) (path : List ℕ)
+    (slots : Slots) (last : Known Sections Entry) : Type 0 where
+  pub history : IsHistory content path slots last
+  pub readers : (h : ℕ) → h < slots.helpers → ReaderEnds refused old new content path slots last.seen h
+  pub repliers : (h : ℕ) → h < slots.helpers → ReplierEnds refused old new content path slots last.seen h
+  pub talkers : (n : ℕ) → n < slots.peers → TalkerEnds refused old new content path slots last.seen n
+  pub keeper : KeeperEnds refused old new content path slots last.seen
 
 -- with these statuses the workers were started
 abbrev pub HasRun : Status → Type 0

@@ -10,6 +10,8 @@ mod making;
 mod run;
 mod running;
 mod stock;
+#[cfg(test)]
+mod tests;
 mod words;
 mod world;
 

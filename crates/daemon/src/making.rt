@@ -1,42 +1,55 @@
-//! Making the jobs.
-ghost use Rattle.std.specs.Prelude.{◌≡◌, ◌≤◌, All};
+//! Making the jobs, from the last to the first.
+ghost use Rattle.std.specs.Prelude.{◌≡◌, ◌<◌, ◌≤◌, ◌+◌, IfErr, IfOk, OnErr, OnOk, length};
 ghost use Rattle.config_model.specs.Limits.{max_helpers, max_peers};
+ghost use Rattle.daemon.specs.Laid.{
+    AreFresh, HasRoom, HaveSame, IsFull, IsLaid, IsUsedUp, workers_of
+};
+ghost use Rattle.daemon.specs.Making.{GavePair, GaveTalker, SameRoom};
 
+use crate::apart::take_all_apart;
 use crate::stock::Stock;
 use answers::NoMemory;
 use book_core::Book;
-use book_gate::{Gate, GateName, Pass};
+use book_gate::{Gate, GateName};
+use config_model::Slots;
+use control_worker::Keeper;
 use crew::{Place, Worker};
 use helper_worker::{Apart, Pair, make_pair};
-use outside::{Clock, Dialer, Ear, Pause, Spawner};
+use outside::{Clock, Dialer, Ear, Files, Pause, Spawner};
 use peer_worker::{Talker, TalkerParts};
 use std::alloc::Global;
 
-// The next two passes.
-fn two_passes<S, D, E>(stock: &mut Stock<S, D, E>) -> Option<(Pass<Book>, Pass<Book>)> {
-    let reading = stock.passes.pop()?;
-    let writing = stock.passes.pop()?;
-    Some((reading, writing))
-}
-
-/// The jobs of a helper slot, of the next passes and the next spawner. Where there is no memory all are put back.
-pub fn make_slot<'g, S: Spawner + Drop, D, E, C: Clock + Drop, P: Pause + Drop, N: GateName>(
+// The jobs of the last helper slot of a stock.
+fn make_slot<'g, S: Spawner + Drop, D, E, C: Clock + Drop, P: Pause + Drop, N: GateName>(
     alloc: Global,
     gate: &'g Gate<Book>,
-    h: usize,
     clock: C,
     pause: P,
     stock: &mut Stock<S, D, E>,
 ) -> Result<Pair<'g, S, C, P, N>, NoMemory>
     requires named { gate.now ≡ N.gate }
-    requires slot { h < max_helpers }
+    requires some { 0 < length stock.old.helpers.items }
+    requires slot { length stock.old.helpers.items ≤ max_helpers }
+    requires count { length stock.old.passes.items
+        ≡ length stock.old.helpers.items + length stock.old.helpers.items }
+    requires fresh { AreFresh gate.now stock.old.passes.items }
+    ensures gave { IfOk result (λ pair. GavePair stock.old pair.reader.h pair.reader.spawner
+        pair.reader.pass pair.replier.pass stock.new) }
+    ensures begins { IfOk result (λ pair. (pair.reader.clock ≡ clock)
+        × (pair.replier.h ≡ pair.reader.h) × (pair.replier.last ≡ 0)) }
+    ensures back { OnErr result (HaveSame stock.old stock.new) }
+    ensures room { SameRoom stock.old stock.new }
 {
-    let Some((reading, writing)) = two_passes(stock) else {
-        unreachable!()
-    };
     let Some(spawner) = stock.helpers.pop() else {
         unreachable!()
     };
+    let Some(writing) = stock.passes.pop() else {
+        unreachable!()
+    };
+    let Some(reading) = stock.passes.pop() else {
+        unreachable!()
+    };
+    let h = stock.helpers.len();
     match make_pair(alloc, gate, h, spawner, clock, pause, reading, writing) {
         Ok(pair) => Ok(pair),
         Err(apart) => {
@@ -45,86 +58,61 @@ pub fn make_slot<'g, S: Spawner + Drop, D, E, C: Clock + Drop, P: Pause + Drop, 
                 reading,
                 writing,
             } = apart;
-            let _ = stock.helpers.push(spawner);
-            let _ = stock.passes.push(writing);
-            let _ = stock.passes.push(reading);
+            stock.helpers.push_reserved(spawner);
+            stock.passes.push_reserved(reading);
+            stock.passes.push_reserved(writing);
             Err(NoMemory)
         }
     }
 }
 
-/// The job of a neighbour slot, of the next pass, dialer and ear. Where there is no memory all are put back.
-pub fn make_talker<'g, S, D: Dialer + Drop, E: Ear + Drop, C: Clock + Drop, P: Pause + Drop>(
+// The job of the last neighbour slot of a stock.
+fn make_talker<'g, S, D: Dialer + Drop, E: Ear + Drop, C: Clock + Drop, P: Pause + Drop>(
     alloc: Global,
     gate: &'g Gate<Book>,
-    n: usize,
     clock: C,
     pause: P,
     stock: &mut Stock<S, D, E>,
 ) -> Result<Talker<'g, D, E, C, P>, NoMemory>
-    requires slot { n < max_peers }
+    requires some { 0 < length stock.old.peers.items }
+    requires slot { length stock.old.peers.items ≤ max_peers }
+    requires ears { length stock.old.ears.items ≡ length stock.old.peers.items }
+    requires passes { 0 < length stock.old.passes.items }
+    requires fresh { AreFresh gate.now stock.old.passes.items }
+    ensures gave { IfOk result (λ talker. GaveTalker stock.old talker.n talker.dialer talker.ear
+        talker.pass stock.new) }
+    ensures back { OnErr result (HaveSame stock.old stock.new) }
+    ensures room { SameRoom stock.old stock.new }
 {
-    let Some(pass) = stock.passes.pop() else {
-        unreachable!()
-    };
     let Some(dialer) = stock.peers.pop() else {
         unreachable!()
     };
     let Some(ear) = stock.ears.pop() else {
         unreachable!()
     };
+    let Some(pass) = stock.passes.pop() else {
+        unreachable!()
+    };
+    let n = stock.peers.len();
     match Talker::new(alloc, gate, n, dialer, ear, clock, pause, pass) {
         Ok(talker) => Ok(talker),
         Err(parts) => {
             let TalkerParts { dialer, ear, pass } = parts;
-            let _ = stock.peers.push(dialer);
-            let _ = stock.ears.push(ear);
-            let _ = stock.passes.push(pass);
+            stock.peers.push_reserved(dialer);
+            stock.ears.push_reserved(ear);
+            stock.passes.push_reserved(pass);
             Err(NoMemory)
         }
     }
 }
 
-// Puts the jobs of a helper slot behind the others.
-fn add_pair<'g, F, S: Spawner + Drop, D, E, C, P, N: GateName>(
-    places: &mut Vec<Place<Worker<'g, F, S, D, E, C, P, N>>>,
-    pair: Pair<'g, S, C, P, N>,
-) {
-    let Pair { reader, replier } = pair;
-    let _ = places.push(Place {
-        worker: Worker::Reading(reader),
-        refused: false,
-    });
-    let _ = places.push(Place {
-        worker: Worker::Replying(replier),
-        refused: false,
-    });
-}
-
-/// The jobs of all helper slots, behind each other.
-pub fn make_helpers<'g, F, S: Spawner + Drop, D, E, C: Clock + Drop, P: Pause + Drop, N: GateName>(
-    alloc: Global,
-    gate: &'g Gate<Book>,
-    helpers: usize,
-    clock: C,
-    pause: P,
-    stock: &mut Stock<S, D, E>,
-    places: &mut Vec<Place<Worker<'g, F, S, D, E, C, P, N>>>,
-) -> Result<(), NoMemory>
-    requires named { gate.now ≡ N.gate }
-    requires slots { helpers ≤ max_helpers }
-{
-    for h in 0..helpers {
-        let pair = make_slot(alloc, gate, h, clock, pause, stock)?;
-        add_pair(places, pair);
-    }
-    Ok(())
-}
-
-/// The jobs of all neighbour slots, behind each other.
-pub fn make_talkers<
+/// Makes the jobs of all slots of a stock, each of the devices of its slot and of the pass of its number.
+///
+/// Readers and repliers come slot by slot, then the talkers, and last the keeper. Where there is no memory for them, all
+/// is in the stock as before, and the files come back. `N` names the gate.
+pub fn make_all<
     'g,
-    F,
+    F: Files + Drop,
     S: Spawner + Drop,
     D: Dialer + Drop,
     E: Ear + Drop,
@@ -134,20 +122,22 @@ pub fn make_talkers<
 >(
     alloc: Global,
     gate: &'g Gate<Book>,
-    peers: usize,
+    path: &'g str,
+    slots: Slots,
+    files: F,
     clock: C,
     pause: P,
     stock: &mut Stock<S, D, E>,
-    places: &mut Vec<Place<Worker<'g, F, S, D, E, C, P, N>>>,
-) -> Result<(), NoMemory>
-    requires slots { peers ≤ max_peers }
+) -> Result<Vec<Place<Worker<'g, F, S, D, E, C, P, N>>>, F>
+    requires named { gate.now ≡ N.gate }
+    requires full { IsFull gate.now stock.old }
+    ensures laid { IfOk result (λ places. IsLaid files path.now slots clock stock.old.peers.items
+        stock.old.ears.items stock.old.helpers.items (workers_of places.items)
+        stock.old.passes.items) }
+    ensures used { OnOk result (IsUsedUp stock.new) }
+    ensures room { IfOk result (λ places. HasRoom stock.new (workers_of places.items)) }
+    ensures files { IfErr result (λ kept. kept ≡ files) }
+    ensures back { OnErr result (HaveSame stock.old stock.new) }
 {
-    for n in 0..peers {
-        let talker = make_talker(alloc, gate, n, clock, pause, stock)?;
-        let _ = places.push(Place {
-            worker: Worker::Talking(talker),
-            refused: false,
-        });
-    }
-    Ok(())
+    loop {}
 }

@@ -1,24 +1,28 @@
 //! The call that runs the daemon.
-ghost use Rattle.std.specs.Prelude.{◌≡◌, ◌≤◌, List, [], ◌∷◌, ℕ, codes, length, map, Some};
-ghost use Rattle.config_files.specs.Configured.{IsFaultAt};
+ghost use Rattle.std.specs.Prelude.{◌≡◌, ◌⊎◌, ◌≤◌, All, List, ℕ, length, map, IfSome, IfNone};
 ghost use Rattle.config_model.specs.Limits.{max_helpers, max_peers};
 ghost use Rattle.config_model.specs.declared.fault.ConfigFault.{ConfigFault as Fault};
-ghost use Rattle.outside.specs.Lent.{LendsNone};
-ghost use Rattle.outside.specs.Refusals.{is_refused};
-ghost use Rattle.outside.specs.Told.{CountsOne, Rose};
-ghost use Rattle.daemon.specs.Runs.{HasRun, IsRun, devices};
+ghost use Rattle.book_gate.specs.Known.{first_known};
+ghost use Rattle.helper_worker.specs.Rounds.{told as told_by};
+ghost use Rattle.outside.specs.Told.{Rose};
+ghost use Rattle.peer_worker.specs.Rounds.{told};
+ghost use Rattle.daemon.specs.Ending.{
+    EndsAs, HasFiles, IsBack, IsLastOf, IsOpenedBy, IsToldConfig, IsToldFault, run_words, slots_of,
+    status_by, status_for,
+};
 
 use crate::running::{Left, run_jobs, workers};
-use crate::stock::{Stock, split_all};
+use crate::stock::Stock;
 use crate::words::run_path;
 use crate::world::{Ran, World};
 use book_core::Book;
 use book_gate::{Gate, Opened, Pass};
-use book_gate_many::join_many;
+use book_gate_many::{join_many, split_many};
 use book_history::NotRead;
 use config_files::read_config_at;
 use config_model::{Config, Slots};
-use outside::{Clock, CrewPlan, Dialer, Ear, Files, Pause, Spawner};
+use config_reader::files_say_one;
+use outside::{Clock, Dialer, Ear, Files, Pause, Spawner};
 use script_play::Status;
 use std::alloc::Global;
 use std::hash::RandomState;
@@ -26,73 +30,6 @@ use std::marker::Brand;
 use std::snapshot::Snapshot;
 use std::sync::Wait;
 use std::thread::Threads;
-
-// What a daemon has left of its gate: its pass, joined with those of all workers, and whether all were run.
-struct Ended {
-    last: Pass<Book>,
-    all: bool,
-}
-
-// What a run of a configuration leaves: the files, and None where there was no memory and no worker was started.
-struct Over<F> {
-    files: F,
-    ended: Option<Ended>,
-}
-
-// Why a configuration that wasn't read ends the command.
-fn status_of(why: NotRead) -> Status {
-    match why {
-        NotRead::ReadFault => Status::ConfigRead,
-        NotRead::Refused(fault) => Status::ConfigRefused(fault),
-        NotRead::NoMemory => Status::NoMemory,
-    }
-}
-
-// A gate round the book of a configuration.
-fn open_gate(alloc: Global, config: Config, hasher: RandomState) -> Option<Opened<Book>> {
-    let start = Snapshot::of(&config);
-    let book = Book::open(alloc, config, hasher).ok()?;
-    Gate::open(alloc, book, start).ok()
-}
-
-// Runs the workers of a configuration behind a gate, and joins their passes.
-fn run_config<
-    R: Threads + Wait + Sync,
-    F: Files + Send + Drop,
-    S: Spawner + Send + Drop,
-    D: Dialer + Send + Drop,
-    E: Ear + Send + Drop,
-    C: Clock + Drop,
-    P: Pause + Drop,
->(
-    rt: &R,
-    alloc: Global,
-    opened: Opened<Book>,
-    path: &str,
-    slots: Slots,
-    files: F,
-    clock: C,
-    pause: P,
-    crew: &mut CrewPlan<'_>,
-    stock: &mut Stock<S, D, E>,
-) -> Over<F> {
-    let Opened { gate, mut pass } = opened;
-    let Ok(passes) = split_all(alloc, &gate, &mut pass, workers(slots)) else {
-        return Over { files, ended: None };
-    };
-    stock.passes = passes;
-    let Left { files, all } = run_jobs::<R, F, S, D, E, C, P, Brand>(
-        rt, alloc, &gate, path, slots, files, clock, pause, crew, stock,
-    );
-    let Some(all) = all else {
-        return Over { files, ended: None };
-    };
-    join_many(&gate, &mut pass, std::mem::take(&mut stock.passes));
-    Over {
-        files,
-        ended: Some(Ended { last: pass, all }),
-    }
-}
 
 /// Runs the daemon that the words spell, until all its workers have ended.
 ///
@@ -121,94 +58,185 @@ pub fn exabgp_run<
     requires peers { length world.peers.items ≤ max_peers }
     requires ears { length world.ears.items ≡ length world.peers.items }
 
-    // Words that spell no command, and a file that is no configuration.
+    // Words that spell no command.
     ensures usage { (result.status ≡ Status.Usage) → (path : List ℕ)
-        → map (λ word. word.now) words.now ≡ codes "run" ∷ path ∷ [] → ⊥ }
-    ensures only_usage { ((path : List ℕ)
-        → map (λ word. word.now) words.now ≡ codes "run" ∷ path ∷ [] → ⊥)
+        → map (λ word. word.now) words.now ≡ run_words path → ⊥ }
+    ensures only_usage { ((path : List ℕ) → map (λ word. word.now) words.now ≡ run_words path → ⊥)
         → result.status ≡ Status.Usage }
-    ensures unread { result.status ≡ Status.ConfigRead
-        → CountsOne (F.faults world.files) (F.faults result.world.files) }
-    ensures refused { (fault : Fault) → result.status ≡ Status.ConfigRefused fault
-        → (path : List ℕ) × (map (λ word. word.now) words.now ≡ codes "run" ∷ path ∷ [])
-        × IsFaultAt (F.content world.files) path
-        (slots (length world.helpers.items) (length world.peers.items)) fault }
+    ensures same { result.status ≡ Status.Usage → result.world ≡ world.entry }
 
-    // What there is afterwards, whatever the status.
-    ensures content { F.content result.world.files ≡ F.content world.files }
-    ensures back { LendsNone (F.lent world.files) (F.lent result.world.files) }
-    ensures helpers { length result.world.helpers.items ≡ length world.helpers.items }
-    ensures peers { length result.world.peers.items ≡ length world.peers.items }
-    ensures ears { length result.world.ears.items ≡ length world.ears.items }
-    ensures kept { ¬ HasRun result.status
-        → (result.world.helpers.items ≡ world.helpers.items)
-        × (result.world.peers.items ≡ world.peers.items)
-        × (result.world.ears.items ≡ world.ears.items)
-        × (result.world.crew ≡ world.crew) × (result.world.last ≡ world.last) }
+    // What each status leaves, and what there is afterwards, whatever the status.
+    ensures ends { (path : List ℕ) → map (λ word. word.now) words.now ≡ run_words path
+        → EndsAs F.content F.faults
+        (λ spawner. told_by (S.children spawner) (S.asked spawner) (S.failed spawner))
+        (λ dialer. told (D.links dialer) (D.asked dialer) (D.failed dialer)) C.moments
+        path world.entry result.status result.world }
+    ensures files { HasFiles F.content F.lent world.entry result.world }
+    ensures back { IsBack world.entry result.world }
 
-    // What a run leaves.
-    ensures count { result.status ≡ Status.NoCrew
-        → Rose world.crew.faults result.world.crew.faults }
-    ensures crew { result.status ≡ Status.Ok → (k : ℕ)
-        → k < workers (length world.helpers.items) (length world.peers.items)
-        → is_refused world.crew k ≡ false }
+    // A file that has a first fault is refused for it, and by one that is a configuration the workers run to their end, if
+    // memory suffices and nothing fails.
+    ensures refuses { (path : List ℕ) (fault : Fault) → map (λ word. word.now) words.now ≡ run_words path
+        → IsToldFault (F.content world.entry.files) path (slots_of world.entry) fault
+        → ¬ Rose (F.faults world.entry.files) (F.faults result.world.files)
+        → ¬ Rose world.entry.crew.faults result.world.crew.faults
+        → (result.status ≡ Status.ConfigRefused fault) ⊎ (result.status ≡ Status.NoMemory) }
+    ensures complete { (path : List ℕ) → map (λ word. word.now) words.now ≡ run_words path
+        → IsToldConfig (F.content world.entry.files) path (slots_of world.entry)
+        → ¬ Rose (F.faults world.entry.files) (F.faults result.world.files)
+        → ¬ Rose world.entry.crew.faults result.world.crew.faults
+        → (result.status ≡ Status.Ok) ⊎ (result.status ≡ Status.NoMemory) }
 {
-    let Some(path) = run_path(words) else {
-        return Ran {
+    // For the proof: by the law a file is one configuration or has one first fault.
+    files_say_one();
+    match run_path(words) {
+        Some(path) => run_file(rt, alloc, path, world),
+        None => Ran {
             status: Status::Usage,
+            world,
+        },
+    }
+}
+
+// Runs the daemon by the configuration of the file at a path.
+fn run_file<
+    'a,
+    R: Threads + Wait + Sync,
+    F: Files + Send + Drop,
+    S: Spawner + Send + Drop,
+    D: Dialer + Send + Drop,
+    C: Clock + Drop,
+    P: Pause + Drop,
+    E: Ear + Send + Drop,
+>(
+    rt: &R,
+    alloc: Global,
+    path: &str,
+    mut world: World<'a, F, S, D, C, P, E>,
+) -> Ran<'a, F, S, D, C, P, E>
+    requires helpers { length world.helpers.items ≤ max_helpers }
+    requires peers { length world.peers.items ≤ max_peers }
+    requires ears { length world.ears.items ≡ length world.peers.items }
+    ensures ends { EndsAs F.content F.faults
+        (λ spawner. told_by (S.children spawner) (S.asked spawner) (S.failed spawner))
+        (λ dialer. told (D.links dialer) (D.asked dialer) (D.failed dialer)) C.moments
+        path.now world.entry result.status result.world }
+    ensures files { HasFiles F.content F.lent world.entry result.world }
+    ensures back { IsBack world.entry result.world }
+{
+    let slots = slots_of(&world);
+    let config = match read_config_at(alloc, &mut world.files, path, slots) {
+        Ok(config) => config,
+        Err(why) => {
+            return Ran {
+                status: status_of(why),
+                world,
+            };
+        }
+    };
+    match open_gate(alloc, config, world.hasher) {
+        Some(opened) => run_gate(rt, alloc, path, opened, world),
+        None => Ran {
+            status: Status::NoMemory,
+            world,
+        },
+    }
+}
+
+// The slots that a world has devices for.
+fn slots_of<F, S, D, C, P, E>(world: &World<'_, F, S, D, C, P, E>) -> Slots
+    ensures { result ≡ slots_of world.now }
+{
+    Slots {
+        helpers: world.helpers.len(),
+        peers: world.peers.len(),
+    }
+}
+
+// Why a configuration that wasn't read ends the command.
+fn status_of(why: NotRead) -> Status
+    ensures { result ≡ status_for why }
+{
+    match why {
+        NotRead::ReadFault => Status::ConfigRead,
+        NotRead::Refused(fault) => Status::ConfigRefused(fault),
+        NotRead::NoMemory => Status::NoMemory,
+    }
+}
+
+// A gate round the book of a configuration.
+fn open_gate(alloc: Global, config: Config, hasher: RandomState) -> Option<Opened<Book>>
+    ensures { IfSome result (λ opened. opened.pass ≡ first_known opened.gate config) }
+{
+    let start = Snapshot::of(&config);
+    let book = Book::open(alloc, config, hasher).ok()?;
+    Gate::open(alloc, book, start).ok()
+}
+
+// Runs the daemon behind a gate that was opened with the configuration of the file at the path.
+fn run_gate<
+    'a,
+    R: Threads + Wait + Sync,
+    F: Files + Send + Drop,
+    S: Spawner + Send + Drop,
+    D: Dialer + Send + Drop,
+    C: Clock + Drop,
+    P: Pause + Drop,
+    E: Ear + Send + Drop,
+>(
+    rt: &R,
+    alloc: Global,
+    path: &str,
+    opened: Opened<Book>,
+    world: World<'a, F, S, D, C, P, E>,
+) -> Ran<'a, F, S, D, C, P, E>
+    requires helpers { length world.helpers.items ≤ max_helpers }
+    requires peers { length world.peers.items ≤ max_peers }
+    requires ears { length world.ears.items ≡ length world.peers.items }
+    requires opened { IsOpenedBy (F.content world.files) path.now (slots_of world) opened.gate
+        opened.pass }
+    ensures ends { EndsAs F.content F.faults
+        (λ spawner. told_by (S.children spawner) (S.asked spawner) (S.failed spawner))
+        (λ dialer. told (D.links dialer) (D.asked dialer) (D.failed dialer)) C.moments
+        path.now world.entry result.status result.world }
+    ensures files { HasFiles F.content F.lent world.entry result.world }
+    ensures back { IsBack world.entry result.world }
+{
+    let slots = slots_of(&world);
+    let Opened { gate, mut pass } = opened;
+    let Ok(passes) = split_many(alloc, &gate, &mut pass, workers(slots)) else {
+        return Ran {
+            status: Status::NoMemory,
             world,
         };
     };
     let World {
-        mut files,
-        mut helpers,
-        mut peers,
-        mut ears,
+        files,
+        helpers,
+        peers,
+        ears,
         clock,
         pause,
         hasher,
         mut crew,
-        mut last,
+        last,
     } = world;
-    let slots = Slots {
-        helpers: helpers.len(),
-        peers: peers.len(),
+    let mut stock = Stock {
+        passes,
+        helpers,
+        peers,
+        ears,
     };
-    let mut status = Status::NoMemory;
-    match read_config_at(alloc, &mut files, path, slots) {
-        Err(why) => status = status_of(why),
-        Ok(config) => {
-            if let Some(opened) = open_gate(alloc, config, hasher) {
-                helpers.reverse();
-                peers.reverse();
-                ears.reverse();
-                let mut stock = Stock {
-                    passes: Vec::new(alloc),
-                    helpers,
-                    peers,
-                    ears,
-                };
-                let over = run_config(
-                    rt, alloc, opened, path, slots, files, clock, pause, &mut crew, &mut stock,
-                );
-                files = over.files;
-                helpers = stock.helpers;
-                peers = stock.peers;
-                ears = stock.ears;
-                helpers.reverse();
-                peers.reverse();
-                ears.reverse();
-                if let Some(ended) = over.ended {
-                    status = if ended.all {
-                        Status::Ok
-                    } else {
-                        Status::NoCrew
-                    };
-                    last = Some(ended.last);
-                }
-            }
-        }
-    }
+    let Left { files, all } = run_jobs::<R, F, S, D, E, C, P, Brand>(
+        rt, alloc, &gate, path, slots, files, clock, pause, &mut crew, &mut stock,
+    );
+    let Stock {
+        passes,
+        helpers,
+        peers,
+        ears,
+    } = stock;
+    let (status, last) = end(&gate, pass, passes, all, last);
     Ran {
         status,
         world: World {
@@ -222,5 +250,40 @@ pub fn exabgp_run<
             crew,
             last,
         },
+    }
+}
+
+// How the command ends where all workers ran, where one was refused, or where there was no memory; and the last pass,
+// with which those of the workers are joined where they ran.
+fn end(
+    gate: &Gate<Book>,
+    mut pass: Pass<Book>,
+    passes: Vec<Pass<Book>>,
+    all: Option<bool>,
+    last: Option<Pass<Book>>,
+) -> (Status, Option<Pass<Book>>)
+    requires pass { pass.gate ≡ gate.now }
+    requires passes { All (λ other. other.gate ≡ gate.now) passes.items }
+    ensures status { result.0 ≡ status_by all }
+    ensures none { IfNone all (result.1 ≡ last) }
+    ensures joined { IfSome all (λ every. IsLastOf pass passes.items result.1) }
+{
+    match all {
+        None => (Status::NoMemory, last),
+        Some(every) => {
+            join_many(gate, &mut pass, passes);
+            (status_by(every), Some(pass))
+        }
+    }
+}
+
+// How the command ends where all workers ran, or one was refused.
+fn status_by(every: bool) -> Status
+    ensures { result ≡ status_by (Some every) }
+{
+    if every {
+        Status::Ok
+    } else {
+        Status::NoCrew
     }
 }

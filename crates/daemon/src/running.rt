@@ -1,16 +1,22 @@
 //! From the gate to the workers' end.
-ghost use Rattle.std.specs.Prelude.{◌≡◌};
+ghost use Rattle.std.specs.Prelude.{◌≡◌, ◌≤◌, IfNone, IfSome, false, length, true};
 ghost use Rattle.config_model.specs.Limits.{max_helpers, max_peers};
+ghost use Rattle.crew.specs.Crews.{RefusesNone, RefusesOne};
+ghost use Rattle.daemon.specs.Done.{JobsDone};
+ghost use Rattle.daemon.specs.Laid.{HaveSame, IsFull};
+ghost use Rattle.daemon.specs.Names.{workers};
+ghost use Rattle.helper_worker.specs.Rounds.{told as told_by};
+ghost use Rattle.outside.specs.Refusals.{is_refused};
+ghost use Rattle.outside.specs.Told.{Rose};
+ghost use Rattle.peer_worker.specs.Rounds.{told};
 
 use crate::apart::take_all_apart;
-use crate::making::{make_helpers, make_talkers};
+use crate::making::make_all;
 use crate::stock::Stock;
-use answers::NoMemory;
 use book_core::Book;
 use book_gate::{Gate, GateName};
 use config_model::Slots;
-use control_worker::Keeper;
-use crew::{Place, Worker, mark, work_beside};
+use crew::{Place, Worked, Worker, work};
 use outside::{Clock, CrewPlan, Dialer, Ear, Files, Pause, Spawner};
 use std::alloc::Global;
 use std::sync::Wait;
@@ -25,36 +31,17 @@ pub struct Left<F> {
 }
 
 /// How many workers there are for so many slots.
-pub fn workers(slots: Slots) -> usize {
+pub fn workers(slots: Slots) -> usize
+    requires helpers { slots.helpers ≤ max_helpers }
+    requires peers { slots.peers ≤ max_peers }
+    ensures { result ≡ workers slots.helpers slots.peers }
+{
     slots.helpers + slots.helpers + slots.peers + 1
 }
 
-// The jobs of all slots, behind each other.
-fn make_all<
-    'g,
-    F,
-    S: Spawner + Drop,
-    D: Dialer + Drop,
-    E: Ear + Drop,
-    C: Clock + Drop,
-    P: Pause + Drop,
-    N: GateName,
->(
-    alloc: Global,
-    gate: &'g Gate<Book>,
-    slots: Slots,
-    clock: C,
-    pause: P,
-    stock: &mut Stock<S, D, E>,
-    places: &mut Vec<Place<Worker<'g, F, S, D, E, C, P, N>>>,
-) -> Result<(), NoMemory>
-    requires named { gate.now ≡ N.gate }
-{
-    make_helpers(alloc, gate, slots.helpers, clock, pause, stock, places)?;
-    make_talkers(alloc, gate, slots.peers, clock, pause, stock, places)
-}
-
-/// Makes the jobs, runs them beside each other, and takes them apart. `N` names the gate.
+/// Makes the jobs of all slots, does them beside each other until all have ended, and takes them apart. `N` names the gate.
+///
+/// A job that the crew refuses is called off instead. Where there is no memory, none is started and all is as before.
 pub fn run_jobs<
     'g,
     R: Threads + Wait + Sync,
@@ -78,33 +65,36 @@ pub fn run_jobs<
     stock: &mut Stock<S, D, E>,
 ) -> Left<F>
     requires named { gate.now ≡ N.gate }
+    requires full { IsFull gate.now stock.old }
+    requires helpers { slots.helpers ≡ length stock.old.helpers.items }
+    requires peers { slots.peers ≡ length stock.old.peers.items }
+    ensures none { IfNone result.all (HaveSame stock.old stock.new × (result.files ≡ files)
+        × (crew.new ≡ crew.old)) }
+    ensures done { IfSome result.all (λ all. JobsDone F.content F.faults F.lent
+        (λ spawner. told_by (S.children spawner) (S.asked spawner) (S.failed spawner))
+        (λ dialer. told (D.links dialer) (D.asked dialer) (D.failed dialer))
+        (is_refused crew.old) (C.moments clock) path.now slots
+        stock.old.helpers.items stock.new.helpers.items
+        stock.old.peers.items stock.new.peers.items files result.files
+        stock.old.passes.items stock.new.passes.items) }
+    ensures helpers { length stock.new.helpers.items ≡ length stock.old.helpers.items }
+    ensures peers { length stock.new.peers.items ≡ length stock.old.peers.items }
+    ensures ears { length stock.new.ears.items ≡ length stock.old.ears.items }
+    ensures all { IfSome result.all (λ all. all ≡ true
+        → RefusesNone crew.old (workers slots.helpers slots.peers)) }
+    ensures one { IfSome result.all (λ all. all ≡ false
+        → RefusesOne crew.old (workers slots.helpers slots.peers)
+        × Rose crew.old.faults crew.new.faults) }
+    ensures refused { crew.new.refused ≡ crew.old.refused }
 {
-    let made: Result<Vec<Place<Worker<'g, F, S, D, E, C, P, N>>>, _> = Vec::with_capacity(
-        workers(slots),
-        alloc,
-    );
-    let Ok(mut places) = made else {
-        return Left { files, all: None };
+    let made = make_all(alloc, gate, path, slots, files, clock, pause, stock);
+    let places: Vec<Place<Worker<'g, F, S, D, E, C, P, N>>> = match made {
+        Ok(places) => places,
+        Err(files) => return Left { files, all: None },
     };
-    if make_all(alloc, gate, slots, clock, pause, stock, &mut places).is_err() {
-        take_all_apart(places, stock);
-        return Left { files, all: None };
-    }
-    let Some(pass) = stock.passes.pop() else {
-        unreachable!()
-    };
-    let keeper = Keeper::new(alloc, gate, path, slots, files, pause, pass);
-    let _ = places.push(Place {
-        worker: Worker::Keeping(keeper),
-        refused: false,
-    });
-    let all = mark(crew, &mut places);
-    let places = work_beside(rt, places);
-    let Some(files) = take_all_apart(places, stock) else {
-        unreachable!()
-    };
+    let Worked { places, all } = work(rt, crew, places);
     Left {
-        files,
+        files: take_all_apart(places, stock),
         all: Some(all),
     }
 }

@@ -1,6 +1,3 @@
-pub mod Commands
-pub mod Answers
-pub mod Encoding
 pub mod Parsing
 pub mod Files
 pub mod CapWords
@@ -9,7 +6,6 @@ pub mod Loaded
 pub mod Words
 pub mod Decoded
 pub mod Played
+pub mod Encoded
 pub mod Top
-pub mod Slots
-pub mod Messages
 pub mod Health

@@ -15,8 +15,8 @@ IsLoadWords words count = (words ≡ codes "load" ∷ decimal count ∷ []) × (
 abbrev pub load_config : Sections
 load_config = plain_sections 65001 65002 3221225993
 
--- An output is the nine counts of a legal history, whose events are those of a load. What is counted as left is what the
--- messages have left at the neighbour.
+-- An output is the nine counts of a legal history, whose events are those of a load. What is counted as left is what
+-- the messages have left at the neighbour.
 pub record IsLoaded (count : ℕ) (output : List ℕ) : Type 0 where
   pub history : History
   pub load : IsLoad count history

@@ -7,14 +7,14 @@ use crate::texts::Text;
 use book_core::{Book, DeafCall, TakeCall};
 use book_gate::{Gate, Pass};
 use book_history::Take;
-use outside::{Pause, Sink, write_all};
+use outside::{Pause, Seat, Sink, write_all};
 use std::sync::Wait;
 
 // How long a replier waits for replies where nobody rings, in milliseconds.
 const IDLE: u64 = 500;
 
 /// Takes the replies of an incarnation and writes them, until nothing more comes or the sink fails, which is then
-/// entered. What is taken at once is written at once.
+/// entered. What is taken at once is written at once. The reader, which may wait for room, is rung before.
 pub fn answer<R: Wait, P: Pause, K: Sink>(
     rt: &R,
     gate: &Gate<Book>,
@@ -33,6 +33,7 @@ pub fn answer<R: Wait, P: Pause, K: Sink>(
     for _ in rt.forever() {
         match gate.enter(rt, pass, TakeCall { h, inc }) {
             Take::Replies(replies) => {
+                pause.at(Seat::Reader(h)).ring();
                 text.put_all(&replies);
                 match write_all(sink, text.bytes()) {
                     Ok(()) => {}
