@@ -1,4 +1,6 @@
 # What the checks of the running daemon share; they read this file once `program` is the daemon's program.
+# shellcheck shell=bash
+# shellcheck disable=SC2154,SC2034
 
 scratch=$(mktemp -d)
 cd "$scratch" || exit 1
