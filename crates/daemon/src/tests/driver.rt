@@ -282,7 +282,7 @@ pub fn took<'w>(world: &'w Devices<'_>, h: usize) -> &'w [u8] {
 }
 
 /// The links that have ended.
-pub fn links<'w, 'a>(world: &'w Devices<'a>) -> &'w [MemoryLink<'a>] {
+pub fn links<'w, 'a: 'w>(world: &'w Devices<'a>) -> &'w [MemoryLink<'a>] {
     let Some(peer) = world.peers.first() else {
         return &[];
     };
