@@ -3,15 +3,15 @@ ghost use Rattle.std.specs.Prelude.{◌≡◌, IfOk, length};
 
 use super::messages::{THEIRS, messages};
 use super::plan::{
-    AGAIN, ALL, CONNECTS, ENDED, FIRST, FIRST_TAKES, GAVE, HAND, KILLED, LEFT, LINK, LINK_TAKES,
-    Marks, OPENED, OPENS, OTHER_KILLED, OTHER_TOOK, Plan, RESTED, SAID, SECOND, STARTS, THREADS,
-    TOOK, failing, lines, next, script, ticks,
+    AGAIN, ALL, CONNECTS, ENDED, FIRST, FIRST_TAKES, GAVE, HAND, Holds, KILLED, LEFT, LINK,
+    LINK_TAKES, Marks, NEXT, OPENED, OPENS, OTHER_KILLED, OTHER_TOOK, Plan, SAID, SECOND, STARTS,
+    THREADS, TOOK, failing, lines, script, ticks,
 };
 use super::watched::WatchedFiles;
 use crate::{Ran, World, exabgp_run};
 use outside::{
-    CountedWait, CrewPlan, HeldFile, Hold, Mark, MemoryClock, MemoryDialer, MemoryFiles,
-    MemoryLink, MemoryPause, MemorySpawner, NoEar, ReadyChild, ReadyLink,
+    CrewPlan, HeldFile, MemoryClock, MemoryDialer, MemoryFiles, MemoryLink, MemoryPause,
+    MemorySpawner, NoEar, ReadyChild, ReadyLink,
 };
 use script_play::Status;
 use std::alloc::Global;
@@ -25,9 +25,6 @@ const CALLS: usize = 16;
 
 // How many bytes there is room for that a child or a link takes, and how many quiet calls of a link.
 const BYTES: usize = 65_536;
-
-// How long a reader rests that may start no helper, in milliseconds.
-const REST: u64 = 1_000;
 
 /// The path of a configuration of two helpers and no neighbour.
 pub const HELPERS: &str = "helpers.conf";
@@ -87,35 +84,6 @@ pub type Devices<'a> = World<
     NoEar,
 >;
 
-/// What holds the ways of a run, and where its rests are counted.
-#[derive(Drop)]
-pub struct Holds<'a> {
-    first: [Hold<'a>; 2],
-    first_takes: [Hold<'a>; 2],
-    second: [Hold<'a>; 2],
-    link: [Hold<'a>; 2],
-    link_takes: [Hold<'a>; 2],
-    again: [Hold<'a>; 2],
-    rests: [CountedWait<'a>; 1],
-}
-
-impl<'a> Holds<'a> {
-    pub fn new(plan: &[Plan<'_>], marks: &'a Marks) -> Self {
-        Holds {
-            first: marks.holds(plan, FIRST),
-            first_takes: marks.holds(plan, FIRST_TAKES),
-            second: marks.holds(plan, SECOND),
-            link: marks.holds(plan, LINK),
-            link_takes: marks.holds(plan, LINK_TAKES),
-            again: marks.holds(plan, AGAIN),
-            rests: [CountedWait {
-                ms: REST,
-                mark: marks.of(RESTED),
-            }],
-        }
-    }
-}
-
 // A helper that starts this child, and then one that gives these lines.
 fn helper<'a>(
     alloc: Global,
@@ -139,15 +107,15 @@ fn helpers<'a>(
     ensures { IfOk result (λ helpers. length helpers.items ≡ 2) }
 {
     let first = ReadyChild::new(alloc, lines(plan, FIRST), BYTES)?
-        .giving(script(plan, FIRST, &holds.first, marks.of(GAVE)))
-        .taking(script(plan, FIRST_TAKES, &holds.first_takes, marks.of(TOOK)))
+        .giving(script(plan, FIRST, holds, marks.of(GAVE)))
+        .taking(script(plan, FIRST_TAKES, holds, marks.of(TOOK)))
         .killed_at(marks.of(KILLED));
     let second = ReadyChild::new(alloc, lines(plan, SECOND), BYTES)?
-        .giving(script(plan, SECOND, &holds.second, marks.other()))
-        .taking(script(plan, ALL, &[], marks.of(OTHER_TOOK)))
+        .giving(script(plan, SECOND, holds, marks.other()))
+        .taking(script(plan, ALL, holds, marks.of(OTHER_TOOK)))
         .killed_at(marks.of(OTHER_KILLED));
     let (_, starts) = failing(plan, STARTS);
-    let one = helper(alloc, first, next(plan), starts)?;
+    let one = helper(alloc, first, lines(plan, NEXT), starts)?;
     let mut helpers = Vec::new(alloc);
     helpers.push(one.marking(marks.of(ENDED), marks.other()))?;
     helpers.push(helper(alloc, second, b"shutdown\n", &[])?)?;
@@ -159,16 +127,15 @@ fn link<'a>(
     alloc: Global,
     plan: &'a [Plan<'a>],
     gives: usize,
-    given: &'a [Hold<'a>],
     takes: usize,
-    taken: &'a [Hold<'a>],
+    holds: &'a Holds<'a>,
     marks: &'a Marks,
 ) -> Result<ReadyLink<'a>, Fail> {
     Ok(
         ReadyLink::new(alloc, THEIRS, BYTES, BYTES)?
             .quiet()
-            .giving(script(plan, gives, given, marks.other()))
-            .taking(script(plan, takes, taken, marks.of(SAID))),
+            .giving(script(plan, gives, holds, marks.other()))
+            .taking(script(plan, takes, holds, marks.of(SAID))),
     )
 }
 
@@ -180,16 +147,8 @@ fn neighbor<'a>(
     marks: &'a Marks,
 ) -> Result<MemoryDialer<'a>, Fail> {
     let mut ready = Vec::new(alloc);
-    ready.push(link(
-        alloc,
-        plan,
-        LINK,
-        &holds.link,
-        LINK_TAKES,
-        &holds.link_takes,
-        marks,
-    )?)?;
-    ready.push(link(alloc, plan, AGAIN, &holds.again, ALL, &[], marks)?)?;
+    ready.push(link(alloc, plan, LINK, LINK_TAKES, holds, marks)?)?;
+    ready.push(link(alloc, plan, AGAIN, ALL, holds, marks)?)?;
     let (_, connects) = failing(plan, CONNECTS);
     let dialer = MemoryDialer::new(alloc, ready, CALLS, connects)?;
     Ok(dialer.marking(marks.of(LEFT), marks.other()))
@@ -281,12 +240,10 @@ pub fn took<'w>(world: &'w Devices<'_>, h: usize) -> &'w [u8] {
     pipes.sink.bytes().unwrap_or(&[])
 }
 
-/// The links that have ended.
-pub fn links<'w, 'a: 'w>(world: &'w Devices<'a>) -> &'w [MemoryLink<'a>] {
-    let Some(peer) = world.peers.first() else {
-        return &[];
-    };
-    peer.ended().unwrap_or(&[])
+/// The links that have ended, as far as they are told.
+pub fn links<'w, 'a>(world: &'w Devices<'a>) -> Option<&'w [MemoryLink<'a>]> {
+    let peer = world.peers.first()?;
+    peer.ended()
 }
 
 // Sees that a child took a text, so many times.
@@ -307,10 +264,11 @@ fn see_replies(
 // Sees that the links took so many bytes of the messages of these letters.
 fn see_links(
     alloc: Global,
-    links: &[MemoryLink<'_>],
+    links: Option<&[MemoryLink<'_>]>,
     wanted: &[(&'static str, usize)],
     why: &'static str,
 ) -> Result<(), Fail> {
+    let links = links.ok_or("no list of links")?;
     see(links.len() == wanted.len(), why, "another number of links")?;
     for (link, (letters, count)) in links.iter().zip(wanted) {
         let all = messages(alloc, letters)?;
