@@ -8,11 +8,11 @@ mod watched;
 
 use crate::{Ran, exabgp_run};
 use cases::CASES;
-use driver::{BAD, Case, Devices, TWO, devices, drive, links, took};
+use driver::{BAD, Case, Devices, Holds, TWO, devices, drive, links, took};
 use messages::{ROUTE, messages};
 use plan::Plan::{Fails, Held, Says, Ticks};
 use plan::{
-    AGAIN, ALL, ENDED, FIRST, FIRST_TAKES, GAVE, Holds, LEFT, LINK, Marks, OPENS, OTHER_TOOK, SAID,
+    AGAIN, ALL, ENDED, FIRST, FIRST_TAKES, GAVE, LEFT, LINK, Marks, OPENS, OTHER_TOOK, SAID,
     SECOND, THREADS, TOOK,
 };
 use script_play::Status;

@@ -1,10 +1,10 @@
 // Runs of the daemon, in each of which something happens once.
 
 use super::driver::{Case, HELPERS, ONE, TWO};
-use super::plan::Plan::{Fails, Held, Says};
+use super::plan::Plan::{Fails, Held, Next, Says};
 use super::plan::{
-    ALL, CONNECTS, ENDED, FIRST, FIRST_TAKES, KILLED, LINK, LINK_TAKES, NEXT, OPENED, OPENS,
-    OTHER_TOOK, RESTED, SAID, SECOND, STARTS, TOOK,
+    ALL, CONNECTS, ENDED, FIRST, FIRST_TAKES, KILLED, LINK, LINK_TAKES, OPENED, OPENS, OTHER_TOOK,
+    RESTED, SAID, SECOND, STARTS, TOOK,
 };
 
 // A session of a neighbour for which there is no route.
@@ -34,7 +34,7 @@ pub const CASES: [Case<'static>; 10] = [
                 FIRST,
                 b"announce route 10.0.0.0/24 next-hop 192.0.2.1\nshutdown\n",
             ),
-            Says(NEXT, b"shutdown\n"),
+            Next(b"shutdown\n"),
             Held(FIRST, 46, SAID, 140),
             Held(LINK, 0, TOOK, 5),
         ],

@@ -3,15 +3,15 @@ ghost use Rattle.std.specs.Prelude.{◌≡◌, IfOk, length};
 
 use super::messages::{THEIRS, messages};
 use super::plan::{
-    AGAIN, ALL, CONNECTS, ENDED, FIRST, FIRST_TAKES, GAVE, HAND, Holds, KILLED, LEFT, LINK,
-    LINK_TAKES, Marks, NEXT, OPENED, OPENS, OTHER_KILLED, OTHER_TOOK, Plan, SAID, SECOND, STARTS,
-    THREADS, TOOK, failing, lines, script, ticks,
+    AGAIN, ALL, CONNECTS, ENDED, FIRST, FIRST_TAKES, GAVE, HAND, KILLED, LEFT, LINK, LINK_TAKES,
+    Marks, OPENED, OPENS, OTHER_KILLED, OTHER_TOOK, Plan, RESTED, SAID, SECOND, STARTS, THREADS,
+    TOOK, failing, lines, next, script, ticks,
 };
 use super::watched::WatchedFiles;
 use crate::{Ran, World, exabgp_run};
 use outside::{
-    CrewPlan, HeldFile, MemoryClock, MemoryDialer, MemoryFiles, MemoryLink, MemoryPause,
-    MemorySpawner, NoEar, ReadyChild, ReadyLink,
+    CountedWait, CrewPlan, HeldFile, Hold, Mark, MemoryClock, MemoryDialer, MemoryFiles,
+    MemoryLink, MemoryPause, MemorySpawner, NoEar, ReadyChild, ReadyLink,
 };
 use script_play::Status;
 use std::alloc::Global;
@@ -25,6 +25,9 @@ const CALLS: usize = 16;
 
 // How many bytes there is room for that a child or a link takes, and how many quiet calls of a link.
 const BYTES: usize = 65_536;
+
+// How long a reader rests that may start no helper, in milliseconds.
+const REST: u64 = 1_000;
 
 /// The path of a configuration of two helpers and no neighbour.
 pub const HELPERS: &str = "helpers.conf";
@@ -84,6 +87,35 @@ pub type Devices<'a> = World<
     NoEar,
 >;
 
+/// What holds the ways of a run, and where its rests are counted.
+#[derive(Drop)]
+pub struct Holds<'a> {
+    first: [Hold<'a>; 2],
+    first_takes: [Hold<'a>; 2],
+    second: [Hold<'a>; 2],
+    link: [Hold<'a>; 2],
+    link_takes: [Hold<'a>; 2],
+    again: [Hold<'a>; 2],
+    rests: [CountedWait<'a>; 1],
+}
+
+impl<'a> Holds<'a> {
+    pub fn new(plan: &[Plan<'_>], marks: &'a Marks) -> Self {
+        Holds {
+            first: marks.holds(plan, FIRST),
+            first_takes: marks.holds(plan, FIRST_TAKES),
+            second: marks.holds(plan, SECOND),
+            link: marks.holds(plan, LINK),
+            link_takes: marks.holds(plan, LINK_TAKES),
+            again: marks.holds(plan, AGAIN),
+            rests: [CountedWait {
+                ms: REST,
+                mark: marks.of(RESTED),
+            }],
+        }
+    }
+}
+
 // A helper that starts this child, and then one that gives these lines.
 fn helper<'a>(
     alloc: Global,
@@ -107,15 +139,15 @@ fn helpers<'a>(
     ensures { IfOk result (λ helpers. length helpers.items ≡ 2) }
 {
     let first = ReadyChild::new(alloc, lines(plan, FIRST), BYTES)?
-        .giving(script(plan, FIRST, holds, marks.of(GAVE)))
-        .taking(script(plan, FIRST_TAKES, holds, marks.of(TOOK)))
+        .giving(script(plan, FIRST, &holds.first, marks.of(GAVE)))
+        .taking(script(plan, FIRST_TAKES, &holds.first_takes, marks.of(TOOK)))
         .killed_at(marks.of(KILLED));
     let second = ReadyChild::new(alloc, lines(plan, SECOND), BYTES)?
-        .giving(script(plan, SECOND, holds, marks.other()))
-        .taking(script(plan, ALL, holds, marks.of(OTHER_TOOK)))
+        .giving(script(plan, SECOND, &holds.second, marks.other()))
+        .taking(script(plan, ALL, &[], marks.of(OTHER_TOOK)))
         .killed_at(marks.of(OTHER_KILLED));
     let (_, starts) = failing(plan, STARTS);
-    let one = helper(alloc, first, lines(plan, NEXT), starts)?;
+    let one = helper(alloc, first, next(plan), starts)?;
     let mut helpers = Vec::new(alloc);
     helpers.push(one.marking(marks.of(ENDED), marks.other()))?;
     helpers.push(helper(alloc, second, b"shutdown\n", &[])?)?;
@@ -127,15 +159,16 @@ fn link<'a>(
     alloc: Global,
     plan: &'a [Plan<'a>],
     gives: usize,
+    given: &'a [Hold<'a>],
     takes: usize,
-    holds: &'a Holds<'a>,
+    taken: &'a [Hold<'a>],
     marks: &'a Marks,
 ) -> Result<ReadyLink<'a>, Fail> {
     Ok(
         ReadyLink::new(alloc, THEIRS, BYTES, BYTES)?
             .quiet()
-            .giving(script(plan, gives, holds, marks.other()))
-            .taking(script(plan, takes, holds, marks.of(SAID))),
+            .giving(script(plan, gives, given, marks.other()))
+            .taking(script(plan, takes, taken, marks.of(SAID))),
     )
 }
 
@@ -147,8 +180,16 @@ fn neighbor<'a>(
     marks: &'a Marks,
 ) -> Result<MemoryDialer<'a>, Fail> {
     let mut ready = Vec::new(alloc);
-    ready.push(link(alloc, plan, LINK, LINK_TAKES, holds, marks)?)?;
-    ready.push(link(alloc, plan, AGAIN, ALL, holds, marks)?)?;
+    ready.push(link(
+        alloc,
+        plan,
+        LINK,
+        &holds.link,
+        LINK_TAKES,
+        &holds.link_takes,
+        marks,
+    )?)?;
+    ready.push(link(alloc, plan, AGAIN, &holds.again, ALL, &[], marks)?)?;
     let (_, connects) = failing(plan, CONNECTS);
     let dialer = MemoryDialer::new(alloc, ready, CALLS, connects)?;
     Ok(dialer.marking(marks.of(LEFT), marks.other()))

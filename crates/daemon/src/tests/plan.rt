@@ -1,7 +1,6 @@
 // What is planned for a run of the daemon, and what is counted while it runs.
 
-use outside::{CountedWait, Hold, Mark, Script, Until};
-use std::array;
+use outside::{Hold, Mark, Script, Until};
 
 // How many counts there are.
 const COUNTS: usize = 11;
@@ -39,38 +38,30 @@ pub const RESTED: usize = 9;
 // How many milliseconds there are on the clock.
 pub const HAND: usize = 10;
 
-// How many ways there are.
-pub const WAYS: usize = 6;
-
-// Ways: what the first child of a helper gives, and the first helper's takes.
+// Ways of streams. What the first child of a helper gives.
 pub const FIRST: usize = 0;
 
 pub const SECOND: usize = 1;
 
+// What the first helper's first child takes.
 pub const FIRST_TAKES: usize = 2;
 
-// What each link gives, and what the first one takes.
+// What a link gives, and what the first one takes.
 pub const LINK: usize = 3;
 
 pub const AGAIN: usize = 4;
 
 pub const LINK_TAKES: usize = 5;
 
-// What the first helper's next child gives.
-pub const NEXT: usize = 6;
+// Calls that are no stream's: those that open a file, start the first helper, connect to the neighbour, or give a worker
+// a thread.
+pub const OPENS: usize = 6;
 
-// Calls that are no way's: those that open a file, start the first helper, connect to the neighbour, or give a worker a
-// thread.
-pub const OPENS: usize = 7;
+pub const STARTS: usize = 7;
 
-pub const STARTS: usize = 8;
+pub const CONNECTS: usize = 8;
 
-pub const CONNECTS: usize = 9;
-
-pub const THREADS: usize = 10;
-
-// How long a reader rests that may start no helper, in milliseconds.
-const REST: u64 = 1_000;
+pub const THREADS: usize = 9;
 
 // As many bytes as may be.
 pub const ALL: usize = usize::MAX;
@@ -78,8 +69,10 @@ pub const ALL: usize = usize::MAX;
 /// What is planned.
 #[derive(Clone, Copy)]
 pub enum Plan<'a> {
-    /// What a child gives. In front of a `!` it is held until the child is killed.
+    /// What a helper's first child gives. In front of a last `!` it is held until the child is killed.
     Says(usize, &'a [u8]),
+    /// What the first helper's next child gives.
+    Next(&'a [u8]),
     /// A way is held at a place, until there are so many of a count.
     Held(usize, usize, usize, u64),
     /// A way moves so many bytes a call, and the calls of these numbers fail, counted from 0.
@@ -88,7 +81,7 @@ pub enum Plan<'a> {
     Ticks(u64),
 }
 
-/// What a child gives: nothing, until it is killed, where nothing else is planned.
+/// What a helper's first child gives: nothing, until it is killed, where nothing else is planned.
 pub fn lines<'a>(plan: &[Plan<'a>], of: usize) -> &'a [u8] {
     for item in plan {
         match *item {
@@ -97,6 +90,16 @@ pub fn lines<'a>(plan: &[Plan<'a>], of: usize) -> &'a [u8] {
         }
     }
     b"!"
+}
+
+/// What the first helper's next child gives.
+pub fn next<'a>(plan: &[Plan<'a>]) -> &'a [u8] {
+    for item in plan {
+        if let Plan::Next(lines) = *item {
+            return lines;
+        }
+    }
+    b""
 }
 
 /// How far each wait moves the clock on.
@@ -131,7 +134,7 @@ impl Marks {
     /// Nothing was counted.
     pub fn new() -> Self {
         Marks {
-            marks: array::from_fn(|_| Mark::new()),
+            marks: std::array::from_fn(|_| Mark::new()),
             other: Mark::new(),
         }
     }
@@ -151,8 +154,8 @@ impl Marks {
         self.marks.iter().any(|mark| mark.was_missed())
     }
 
-    // What holds a way.
-    fn holds(&self, plan: &[Plan<'_>], of: usize) -> [Hold<'_>; 2] {
+    /// What holds a way.
+    pub fn holds(&self, plan: &[Plan<'_>], of: usize) -> [Hold<'_>; 2] {
         let stays = Hold {
             at: stays(plan, of),
             until: Until::Killed,
@@ -181,46 +184,18 @@ fn stays(plan: &[Plan<'_>], of: usize) -> usize {
         .unwrap_or(ALL)
 }
 
-/// What holds the ways of a run, and where its rests are counted.
-#[derive(Drop)]
-pub struct Holds<'a> {
-    ways: [[Hold<'a>; 2]; WAYS],
-    pub rests: [CountedWait<'a>; 1],
-}
-
-impl<'a> Holds<'a> {
-    /// By a plan.
-    pub fn new(plan: &[Plan<'_>], marks: &'a Marks) -> Self {
-        Holds {
-            ways: array::from_fn(|way| marks.holds(plan, way)),
-            rests: [CountedWait {
-                ms: REST,
-                mark: marks.of(RESTED),
-            }],
-        }
-    }
-
-    // What holds a way.
-    fn of(&self, way: usize) -> &[Hold<'a>] {
-        match self.ways.get(way) {
-            Some(holds) => holds,
-            None => &[],
-        }
-    }
-}
-
 /// The script of a way.
 pub fn script<'a>(
     plan: &[Plan<'a>],
     of: usize,
-    holds: &'a Holds<'a>,
+    holds: &'a [Hold<'a>],
     moved: &'a Mark,
 ) -> Script<'a> {
     let (step, failing) = failing(plan, of);
     Script {
         step,
         failing,
-        holds: holds.of(of),
+        holds,
         moved: Some(moved),
         faults: None,
     }
