@@ -1,13 +1,17 @@
 // Runs of the daemon over devices in memory, with two helper slots and one neighbour slot.
 ghost use Rattle.std.specs.Prelude.{◌≡◌, IfOk, length};
 
-use super::marks::{ChildMarks, FREE, Marks, Way, script};
 use super::messages::{THEIRS, messages};
+use super::plan::{
+    AGAIN, ALL, CONNECTS, ENDED, FIRST, FIRST_TAKES, GAVE, HAND, KILLED, LEFT, LINK, LINK_TAKES,
+    Marks, OPENED, OPENS, OTHER_KILLED, OTHER_TOOK, Plan, RESTED, SAID, SECOND, STARTS, THREADS,
+    TOOK, failing, lines, next, script, ticks,
+};
 use super::watched::WatchedFiles;
 use crate::{Ran, World, exabgp_run};
 use outside::{
-    CountedWait, CrewPlan, HeldFile, Hold, MemoryClock, MemoryDialer, MemoryFiles, MemoryLink,
-    MemoryPause, MemorySpawner, NoEar, ReadyChild, ReadyLink, Script,
+    CountedWait, CrewPlan, HeldFile, Hold, Mark, MemoryClock, MemoryDialer, MemoryFiles,
+    MemoryLink, MemoryPause, MemorySpawner, NoEar, ReadyChild, ReadyLink,
 };
 use script_play::Status;
 use std::alloc::Global;
@@ -16,14 +20,11 @@ use std::sync::Wait;
 use std::test::Fail;
 use std::thread::Threads;
 
-// How many starts and connects there is room for, and ended children and links.
+// How many starts and connects there is room for.
 const CALLS: usize = 16;
 
-// How many bytes there is room for that a child or a link takes.
+// How many bytes there is room for that a child or a link takes, and how many quiet calls of a link.
 const BYTES: usize = 65_536;
-
-// How many quiet calls of a link there is room for.
-const QUIETS: usize = 65_536;
 
 // How long a reader rests that may start no helper, in milliseconds.
 const REST: u64 = 1_000;
@@ -61,54 +62,18 @@ const HELD: [HeldFile<'static>; 4] = [
     },
 ];
 
-/// The first child of a helper slot.
-#[derive(Clone, Copy)]
-pub struct Child<'a> {
-    /// What it gives.
-    pub lines: &'a [u8],
-    /// What the next child gives.
-    pub next: &'a [u8],
-    pub giving: Way<'a>,
-    pub taking: Way<'a>,
-}
-
-/// A child that says nothing until it is killed.
-pub const SILENT: Child<'static> = Child {
-    lines: b".",
-    next: b"shutdown\n",
-    giving: Way { stays: 0, ..FREE },
-    taking: FREE,
-};
-
-/// What is planned for a run, and what must stand at its end.
+/// What is planned for a run that ends well, and what must stand at its end.
 #[derive(Clone, Copy)]
 pub struct Case<'a> {
     pub why: &'static str,
     pub path: &'static str,
-    /// The calls that open a file and fail, counted from 0.
-    pub opens: &'a [u64],
-    /// The calls that start the first helper and fail.
-    pub starts: &'a [u64],
-    /// The calls that connect to the neighbour and fail.
-    pub connects: &'a [u64],
-    /// The workers that are refused.
-    pub refused: &'a [u64],
-    pub first: Child<'a>,
-    pub second: Child<'a>,
-    /// The first link.
-    pub giving: Way<'a>,
-    pub taking: Way<'a>,
-    /// What the second link gives.
-    pub again: Way<'a>,
-    /// How far each wait moves the clock on, in milliseconds.
-    pub step: u64,
-    pub status: Status,
+    pub plan: &'a [Plan<'a>],
     /// The faults of the files, the first helper and the neighbour.
     pub faults: [u64; 3],
     /// What each helper's first child took: a text, so many times.
-    pub replies: [(&'a str, usize); 2],
+    pub replies: [(&'static str, usize); 2],
     /// What the links took: so many bytes of the messages of these letters.
-    pub said: &'a [(&'a str, usize)],
+    pub said: &'static [(&'static str, usize)],
 }
 
 /// The devices of a run, and what they tell after it.
@@ -122,115 +87,144 @@ pub type Devices<'a> = World<
     NoEar,
 >;
 
-/// What holds the streams of a run, and where its rests are counted.
+/// What holds the ways of a run, and where its rests are counted.
 #[derive(Drop)]
 pub struct Holds<'a> {
-    first: [[Hold<'a>; 2]; 2],
-    second: [[Hold<'a>; 2]; 2],
-    link: [[Hold<'a>; 2]; 3],
+    first: [Hold<'a>; 2],
+    first_takes: [Hold<'a>; 2],
+    second: [Hold<'a>; 2],
+    link: [Hold<'a>; 2],
+    link_takes: [Hold<'a>; 2],
+    again: [Hold<'a>; 2],
     rests: [CountedWait<'a>; 1],
 }
 
 impl<'a> Holds<'a> {
-    pub fn new(case: &Case<'_>, marks: &'a Marks) -> Self {
+    pub fn new(plan: &[Plan<'_>], marks: &'a Marks) -> Self {
         Holds {
-            first: [
-                marks.holds(&case.first.giving),
-                marks.holds(&case.first.taking),
-            ],
-            second: [
-                marks.holds(&case.second.giving),
-                marks.holds(&case.second.taking),
-            ],
-            link: [
-                marks.holds(&case.giving),
-                marks.holds(&case.taking),
-                marks.holds(&case.again),
-            ],
+            first: marks.holds(plan, FIRST),
+            first_takes: marks.holds(plan, FIRST_TAKES),
+            second: marks.holds(plan, SECOND),
+            link: marks.holds(plan, LINK),
+            link_takes: marks.holds(plan, LINK_TAKES),
+            again: marks.holds(plan, AGAIN),
             rests: [CountedWait {
                 ms: REST,
-                mark: &marks.rested,
+                mark: marks.of(RESTED),
             }],
         }
     }
 }
 
-// A helper whose first child is this one.
+// A helper that starts this child, and then one that gives these lines.
 fn helper<'a>(
     alloc: Global,
-    child: &Child<'a>,
-    holds: &'a [[Hold<'a>; 2]; 2],
-    marks: &'a ChildMarks,
+    child: ReadyChild<'a>,
+    next: &'a [u8],
     failing: &'a [u64],
 ) -> Result<MemorySpawner<'a>, Fail> {
-    let first = ReadyChild::new(alloc, child.lines, BYTES)?
-        .giving(script(&child.giving, &holds[0], &marks.gave))
-        .taking(script(&child.taking, &holds[1], &marks.took))
-        .killed_at(&marks.killed);
     let mut ready = Vec::new(alloc);
-    ready.push(first)?;
-    ready.push(ReadyChild::new(alloc, child.next, BYTES)?)?;
+    ready.push(child)?;
+    ready.push(ReadyChild::new(alloc, next, BYTES)?)?;
     Ok(MemorySpawner::new(alloc, ready, CALLS, failing)?)
 }
 
-// A neighbour that comes up on two links, of which the first does as it is planned.
+// The helpers. Where something is waited for in vain, the second one's next child ends the daemon.
+fn helpers<'a>(
+    alloc: Global,
+    plan: &'a [Plan<'a>],
+    holds: &'a Holds<'a>,
+    marks: &'a Marks,
+) -> Result<Vec<MemorySpawner<'a>>, Fail>
+    ensures { IfOk result (λ helpers. length helpers.items ≡ 2) }
+{
+    let first = ReadyChild::new(alloc, lines(plan, FIRST), BYTES)?
+        .giving(script(plan, FIRST, &holds.first, marks.of(GAVE)))
+        .taking(script(plan, FIRST_TAKES, &holds.first_takes, marks.of(TOOK)))
+        .killed_at(marks.of(KILLED));
+    let second = ReadyChild::new(alloc, lines(plan, SECOND), BYTES)?
+        .giving(script(plan, SECOND, &holds.second, marks.other()))
+        .taking(script(plan, ALL, &[], marks.of(OTHER_TOOK)))
+        .killed_at(marks.of(OTHER_KILLED));
+    let (_, starts) = failing(plan, STARTS);
+    let one = helper(alloc, first, next(plan), starts)?;
+    let mut helpers = Vec::new(alloc);
+    helpers.push(one.marking(marks.of(ENDED), marks.other()))?;
+    helpers.push(helper(alloc, second, b"shutdown\n", &[])?)?;
+    Ok(helpers)
+}
+
+// A link on which the neighbour's session comes up.
+fn link<'a>(
+    alloc: Global,
+    plan: &'a [Plan<'a>],
+    gives: usize,
+    given: &'a [Hold<'a>],
+    takes: usize,
+    taken: &'a [Hold<'a>],
+    marks: &'a Marks,
+) -> Result<ReadyLink<'a>, Fail> {
+    Ok(
+        ReadyLink::new(alloc, THEIRS, BYTES, BYTES)?
+            .quiet()
+            .giving(script(plan, gives, given, marks.other()))
+            .taking(script(plan, takes, taken, marks.of(SAID))),
+    )
+}
+
+// The neighbour, with two links.
 fn neighbor<'a>(
     alloc: Global,
-    case: &Case<'a>,
+    plan: &'a [Plan<'a>],
     holds: &'a Holds<'a>,
     marks: &'a Marks,
 ) -> Result<MemoryDialer<'a>, Fail> {
-    let first = ReadyLink::new(alloc, THEIRS, BYTES, QUIETS)?
-        .quiet()
-        .giving(script(&case.giving, &holds.link[0], &marks.other))
-        .taking(script(&case.taking, &holds.link[1], &marks.said));
-    let free = Script {
-        moved: Some(&marks.said),
-        ..Script::new()
-    };
-    let second = ReadyLink::new(alloc, THEIRS, BYTES, QUIETS)?
-        .quiet()
-        .giving(script(&case.again, &holds.link[2], &marks.other))
-        .taking(free);
     let mut ready = Vec::new(alloc);
-    ready.push(first)?;
-    ready.push(second)?;
-    let dialer = MemoryDialer::new(alloc, ready, CALLS, case.connects)?;
-    Ok(dialer.marking(&marks.left, &marks.other))
+    ready.push(link(
+        alloc,
+        plan,
+        LINK,
+        &holds.link,
+        LINK_TAKES,
+        &holds.link_takes,
+        marks,
+    )?)?;
+    ready.push(link(alloc, plan, AGAIN, &holds.again, ALL, &[], marks)?)?;
+    let (_, connects) = failing(plan, CONNECTS);
+    let dialer = MemoryDialer::new(alloc, ready, CALLS, connects)?;
+    Ok(dialer.marking(marks.of(LEFT), marks.other()))
 }
 
 /// The devices of a run.
 pub fn devices<'a>(
     alloc: Global,
     hasher: RandomState,
-    case: &Case<'a>,
+    plan: &'a [Plan<'a>],
     holds: &'a Holds<'a>,
     marks: &'a Marks,
 ) -> Result<Devices<'a>, Fail>
     ensures { IfOk result (λ devices. (length devices.helpers.items ≡ 2)
         × (length devices.peers.items ≡ 1) × (length devices.ears.items ≡ 1)) }
 {
-    let first = helper(alloc, &case.first, &holds.first, &marks.first, case.starts)?;
-    let second = helper(alloc, &case.second, &holds.second, &marks.second, &[])?;
-    let mut helpers = Vec::new(alloc);
-    helpers.push(first.marking(&marks.ended, &marks.other))?;
-    helpers.push(second)?;
+    let helpers = helpers(alloc, plan, holds, marks)?;
     let mut peers = Vec::new(alloc);
-    peers.push(neighbor(alloc, case, holds, marks)?)?;
+    peers.push(neighbor(alloc, plan, holds, marks)?)?;
     let mut ears = Vec::new(alloc);
     ears.push(NoEar)?;
+    let (_, opens) = failing(plan, OPENS);
+    let (_, refused) = failing(plan, THREADS);
     Ok(World {
         files: WatchedFiles {
-            files: MemoryFiles::new(&HELD, case.opens, &[]),
-            opened: &marks.opened,
+            files: MemoryFiles::new(&HELD, opens, &[]),
+            opened: marks.of(OPENED),
         },
         helpers,
         peers,
         ears,
-        clock: MemoryClock::new(&marks.hand),
-        pause: MemoryPause::new(&holds.rests).moving(&marks.hand, case.step),
+        clock: MemoryClock::new(marks.of(HAND)),
+        pause: MemoryPause::new(&holds.rests).moving(marks.of(HAND), ticks(plan)),
         hasher,
-        crew: CrewPlan::new(case.refused),
+        crew: CrewPlan::new(refused),
         last: None,
     })
 }
@@ -243,16 +237,16 @@ pub fn drive<R: Threads + Wait + Sync>(
     case: &Case<'_>,
 ) -> Result<(), Fail> {
     let marks = Marks::new();
-    let holds = Holds::new(case, &marks);
-    let world = devices(alloc, hasher, case, &holds, &marks)?;
+    let holds = Holds::new(case.plan, &marks);
+    let world = devices(alloc, hasher, case.plan, &holds, &marks)?;
     let Ran { status, world } = exabgp_run(rt, alloc, &["run", case.path], world);
     see(!marks.was_missed(), case.why, "somebody waits in vain")?;
-    see(status == case.status, case.why, "another status")?;
+    see(status == Status::Ok, case.why, "another status")?;
     see(faults(&world) == case.faults, case.why, "other faults")?;
     let [first, second] = case.replies;
-    see_replies(alloc, &world, 0, first, case.why)?;
-    see_replies(alloc, &world, 1, second, case.why)?;
-    see_links(alloc, &world, case.said, case.why)
+    see_replies(alloc, took(&world, 0), first, case.why)?;
+    see_replies(alloc, took(&world, 1), second, case.why)?;
+    see_links(alloc, links(&world), case.said, case.why)
 }
 
 // A failure, where something doesn't stand.
@@ -273,23 +267,7 @@ fn faults(world: &Devices<'_>) -> [u64; 3] {
     ]
 }
 
-// Sees that a helper's first child took a text, so many times.
-fn see_replies(
-    alloc: Global,
-    world: &Devices<'_>,
-    h: usize,
-    wanted: (&str, usize),
-    why: &'static str,
-) -> Result<(), Fail> {
-    let (text, times) = wanted;
-    let mut bytes = Vec::new(alloc);
-    for _ in 0..times {
-        bytes.extend_from_slice(text.as_bytes())?;
-    }
-    see(took(world, h) == bytes.as_slice(), why, "other replies")
-}
-
-// What a helper's first child took, as far as it is told.
+/// What a helper's first child took, as far as it is told.
 pub fn took<'w>(world: &'w Devices<'_>, h: usize) -> &'w [u8] {
     let Some(helper) = world.helpers.get(h) else {
         return &[];
@@ -303,22 +281,35 @@ pub fn took<'w>(world: &'w Devices<'_>, h: usize) -> &'w [u8] {
     pipes.sink.bytes().unwrap_or(&[])
 }
 
-// The links that have ended.
-pub fn links<'w, 'a>(world: &'w Devices<'a>) -> &'w [MemoryLink<'a>] {
-    let Some(peer) = world.peers.first() else {
-        return &[];
-    };
-    peer.ended().unwrap_or(&[])
+/// The links that have ended, as far as they are told.
+pub fn links<'w, 'a>(world: &'w Devices<'a>) -> Option<&'w [MemoryLink<'a>]> {
+    let peer = world.peers.first()?;
+    peer.ended()
 }
 
-// Sees that the links took so many bytes of the messages of these letters, a link an item.
-fn see_links(
+// Sees that a child took a text, so many times.
+fn see_replies(
     alloc: Global,
-    world: &Devices<'_>,
-    wanted: &[(&str, usize)],
+    taken: &[u8],
+    wanted: (&'static str, usize),
     why: &'static str,
 ) -> Result<(), Fail> {
-    let links = links(world);
+    let (text, times) = wanted;
+    let mut bytes = Vec::new(alloc);
+    for _ in 0..times {
+        bytes.extend_from_slice(text.as_bytes())?;
+    }
+    see(taken == bytes.as_slice(), why, "other replies")
+}
+
+// Sees that the links took so many bytes of the messages of these letters.
+fn see_links(
+    alloc: Global,
+    links: Option<&[MemoryLink<'_>]>,
+    wanted: &[(&'static str, usize)],
+    why: &'static str,
+) -> Result<(), Fail> {
+    let links = links.ok_or("no list of links")?;
     see(links.len() == wanted.len(), why, "another number of links")?;
     for (link, (letters, count)) in links.iter().zip(wanted) {
         let all = messages(alloc, letters)?;
