@@ -31,8 +31,8 @@ use Rattle.exa_top.specs.declared.words.Ends.{Ends}
 use Rattle.exa_top.specs.declared.words.TextCommand.{TextCommand}
 use Rattle.exa_top.specs.declared.words.TextCommand.TheVariants.{Encode, EncodePlain, Check, Play, Load, Parse, Decode}
 use Rattle.exa_top.specs.declared.words.TextCommand.TheVariants.{Help, Version}
-use Rattle.exa_top.specs.Encoded.{EncodesFile, EncodesHeard, IsEncoded, IsEncodedOver, IsEncodedPart, IsHeardAt}
-use Rattle.exa_top.specs.Encoded.{IsUnencoded, IsUnheardAt, IsWithin, no_process, plain_of}
+use Rattle.exa_top.specs.Encoded.{EncodesFile, EncodesHeard, IsEncoded, IsEncodedPart, IsHeardAt}
+use Rattle.exa_top.specs.Encoded.{IsUnheardAt, IsWithin, no_process, plain_of}
 use Rattle.exa_top.specs.Plain.{plain_sections}
 use Rattle.exa_top.specs.Top.{input_limit, Answered, Broke, EncodesIts, EndsAtOnce}
 use Rattle.exa_top.specs.Top.{IsConfigured, IsOutput, IsPartOutput}
