@@ -98,9 +98,9 @@ fault_apart law (Some content) path slots config fault are at told =
 not_configured : FilesGiveOne → FilesDoOne → (content : Option (List ℕ → List ℕ)) (command : TextCommand) (fault :
     ConfigFault)
     → IsConfigured content command → HasFault content command fault → ⊥
-not_configured one law content (Encode path) fault (config, slots, are, at, heard) (inl told) =
+not_configured one law content (Encode path) fault (config, (slots, are, at, heard)) (inl told) =
     fault_apart law content path.now slots config fault are at told
-not_configured one law content (Encode path) fault (config, slots, are, at, heard) (inr told) =
+not_configured one law content (Encode path) fault (config, (slots, are, at, heard)) (inr told) =
     heard_apart one content path.now slots config are at heard told.0
 not_configured one law content (EncodePlain ends) fault good told = told
 not_configured one law content (Check path) fault good told =

@@ -31,8 +31,8 @@ use Rattle.exa_top.specs.declared.words.Ends.{Ends}
 use Rattle.exa_top.specs.declared.words.TextCommand.{TextCommand}
 use Rattle.exa_top.specs.declared.words.TextCommand.TheVariants.{Encode, EncodePlain, Check, Play, Load, Parse, Decode}
 use Rattle.exa_top.specs.declared.words.TextCommand.TheVariants.{Help, Version}
-use Rattle.exa_top.specs.Encoded.{EncodesFile, EncodesHeard, IsEncoded, IsEncodedOver, IsEncodedPart, IsHeardAt}
-use Rattle.exa_top.specs.Encoded.{IsUnencoded, IsUnheardAt, IsWithin, no_process, plain_of}
+use Rattle.exa_top.specs.Encoded.{EncodesFile, EncodesHeard, IsEncoded, IsEncodedPart, IsHeardAt}
+use Rattle.exa_top.specs.Encoded.{IsUnheardAt, IsWithin, no_process, plain_of}
 use Rattle.exa_top.specs.Plain.{plain_sections}
 use Rattle.exa_top.specs.Top.{input_limit, Answered, Broke, EncodesIts, EndsAtOnce}
 use Rattle.exa_top.specs.Top.{IsConfigured, IsOutput, IsPartOutput}
@@ -67,7 +67,8 @@ no_slots : (config : Sections) (bytes : List ℕ) (history : History) (begins : 
     → begins.slots ≡ [] → IsWithin history begins.answered
 no_slots config bytes history begins none =
     let cuts : begins.more ++ history ≡ begins.answered =
-    subst (λ (slots : List (ℕ × Neighbor)). Adding AddsCuts begins.answered slots (begins.more ++ history)) none begins.cuts in
+    subst (λ (slots : List (ℕ × Neighbor)). Adding AddsCuts begins.answered slots (begins.more ++ history)) none
+    begins.cuts in
     (begins.more, sym cuts)
 
 -- ---- commands
@@ -437,7 +438,7 @@ encodes_read config source source' sink sink' ends encodes is =
 
 pub heard_read : (config : Sections) (source source' : SourceSeen) (sink sink' : SinkSeen) (ends : Status)
     → EncodesHeard config source source' sink sink' ends → ends ≡ status.ConfigRead → ⊥
-heard_read config source source' sink sink' ends (inl (none, refused, same)) is =
+heard_read config source source' sink sink' ends (inl (none, refused, unread, unwritten)) is =
     let apart : status.ConfigRefused no_process ≡ status.ConfigRead = sym refused ∙ is in absurd (cc)
 heard_read config source source' sink sink' ends (inr (heard, encodes)) is =
     encodes_read config source source' sink sink' ends encodes is

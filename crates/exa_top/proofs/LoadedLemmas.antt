@@ -1,20 +1,18 @@
 -- What `load` shows of its devices, by how it ended.
-use Rattle.std.proofs.Common.{ℕ, ◌≡◌, List, [], Option, refl, inl, subst, sym}
+use Rattle.std.proofs.Common.{ℕ, List, [], Option, refl, inl, subst, sym}
 use Rattle.outside.specs.Seen.{SourceSeen, SinkSeen}
 use Rattle.book_history.specs.Entries.{History}
 use Rattle.book_history.specs.Legal.{IsLegal}
 use Rattle.book_core.specs.Seen.{Seen as Book}
-use Rattle.book_core.specs.Stands.{Stands}
-use Rattle.script_play.specs.Loads.{IsLoad, counts_of, counts_text, max_routes}
+use Rattle.script_play.specs.Loads.{IsLoad, counts_of, counts_text}
 use Rattle.script_play.specs.LoadLaws.{LoadsLeaveCounted}
 use Rattle.script_play.specs.Loading.{Loads}
 use Rattle.script_play.specs.declared.status.Status.{Status}
 use Rattle.script_play.specs.declared.status.Status.TheVariants as status
-use Rattle.exa_top.specs.declared.words.TextCommand.{TextCommand}
 use Rattle.exa_top.specs.declared.words.TextCommand.TheVariants.{Load}
 use Rattle.exa_top.specs.Loaded.{IsLoaded, load_config}
 use Rattle.exa_top.specs.Plain.{plain_neighbor}
-use Rattle.exa_top.specs.Top.{Answered, Wrote}
+use Rattle.exa_top.specs.Top.{Answered}
 use Rattle.exa_top.proofs.AnsweredLemmas.{nothing_written, read_none, untouched_is_few, written}
 
 -- what is written of a load that was entered whole

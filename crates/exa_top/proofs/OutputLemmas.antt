@@ -1,5 +1,5 @@
 -- Outputs that belong to what a command read.
-use Rattle.std.proofs.Common.{ℕ, List, [], ◌∷◌, append-nil, refl, sym, inr, cond, Bool, true, false}
+use Rattle.std.proofs.Common.{ℕ, ◌≡◌, List, [], ◌∷◌, append-nil, refl, sym, inr, cond, Bool, true, false}
 use Rattle.std.proofs.Common.{Result, Err, length, ltb, ltb-true, ltb-false, arith}
 use Rattle.std.specs.List.{AllZip, flat_map}
 use Rattle.text_forms.specs.Lines.{Line, Text, TooLong, lines}

@@ -4,13 +4,12 @@ use Rattle.std.proofs.Common.{inl, inr, arith, append-nil, length-append, codes,
 use Rattle.std.specs.Borrow.{Bor}
 use Rattle.outside.specs.Seen.{SourceSeen, SinkSeen}
 use Rattle.outside.specs.Told.{AreLeft, CountsOne, Grows, Shrinks}
-use Rattle.config_model.specs.declared.fault.ConfigFault.{ConfigFault}
 use Rattle.config_model.specs.declared.slots.Slots.{Slots}
 use Rattle.config_model.specs.Sections.{Sections}
 use Rattle.book_history.specs.Entries.{History}
 use Rattle.book_history.specs.Legal.{IsLegal}
 use Rattle.answer_texts.specs.Shown.{all_of, shown}
-use Rattle.text_history.specs.Configured.{AreTextSlots, IsConfigAt, IsFaultAt}
+use Rattle.text_history.specs.Configured.{AreTextSlots, IsConfigAt}
 use Rattle.text_history.specs.Plays.{IsPlayPart, IsRefusedAt}
 use Rattle.script_grammar.specs.Scripts.{script_lines}
 use Rattle.script_play.specs.declared.status.Status.{Status}
@@ -25,10 +24,10 @@ use Rattle.exa_top.specs.declared.words.TextCommand.{TextCommand}
 use Rattle.exa_top.specs.declared.words.TextCommand.TheVariants.{Encode, EncodePlain, Check, Play, Load, Parse, Decode}
 use Rattle.exa_top.specs.declared.words.TextCommand.TheVariants.{Help, Version}
 use Rattle.exa_top.specs.Words.{IsCommand}
-use Rattle.exa_top.specs.Played.{CountsUnread, IsBadScript, IsLeftRefused, IsPlayedOver, IsShown, IsUnplayed}
+use Rattle.exa_top.specs.Played.{CountsUnread, IsBadScript, IsLeftRefused}
 use Rattle.exa_top.specs.Played.{PlaysFile}
 use Rattle.exa_top.specs.Top.{input_limit, Answered, Broke, HasBadLine, PlaysIts, PlaysScript, ReadPart, Ran}
-use Rattle.exa_top.proofs.AnsweredLemmas.{few_given, grows_none, nothing_written}
+use Rattle.exa_top.proofs.AnsweredLemmas.{few_given, grows_none}
 use Rattle.exa_top.proofs.CheckedLemmas.{unread_stopped}
 
 -- a part of the input, in the words of the other commands

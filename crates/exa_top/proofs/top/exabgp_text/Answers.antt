@@ -53,4 +53,4 @@ pub returns-in-None-clause-encodes_plain : goal.returns-in-None-clause-encodes_p
 returns-in-None-clause-encodes_plain g c session spells = absurd (c.in-None.ensures.none (EncodePlain session) spells)
 
 pub run-requires-clause-bounded : goal.run-requires-clause-bounded
-run-requires-clause-bounded g c = spelled_bounded _ c.in-Some.command c.in-Some.ensures.found
+run-requires-clause-bounded g c lifetimes ordered = spelled_bounded _ c.in-Some.command c.in-Some.ensures.found
