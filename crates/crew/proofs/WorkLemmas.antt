@@ -35,9 +35,7 @@ module _ {J : Type 0} (R : J → J → Type 0) where
           ∙ ap (take len) (append-nil new) ∙ take_all len new (le_of_eq (as_long ∙ sym all)) in
       subst (AllZip R old) (sym back) (all_zip_each old new as_long (subst (λ it. EachBecame R it new) same each))
 
-module _ {F S D E C P N O K L : Type 0} {s : SpawnerGhosts S O K L} {o : SourceGhosts O} {k : SinkGhosts K}
-    {n : NameGhosts N}
-    (content : F → Option (List ℕ → List ℕ)) (faults : F → ℕ) (lent : F → Option ℕ)
+module _ {F S D E C : Type 0} (content : F → Option (List ℕ → List ℕ)) (faults : F → ℕ) (lent : F → Option ℕ)
     (spawning : S → Spawning) (dialling : D → Dialling) (moments : C → Option (ℕ → Bool)) where
   -- a job was done or called off, by whether it is refused
   goes_by : (refused : Bool) (old new : Job F S D E C)
@@ -46,6 +44,10 @@ module _ {F S D E C P N O K L : Type 0} {s : SpawnerGhosts S O K L} {o : SourceG
   goes_by false old new runs off = runs refl
   goes_by true old new runs off = off refl
 
+module _ {F S D E C P N O K L : Type 0} {s : SpawnerGhosts S O K L} {o : SourceGhosts O} {k : SinkGhosts K}
+    {n : NameGhosts N}
+    (content : F → Option (List ℕ → List ℕ)) (faults : F → ℕ) (lent : F → Option ℕ)
+    (spawning : S → Spawning) (dialling : D → Dialling) (moments : C → Option (ℕ → Bool)) where
   -- what marked jobs became, they became by their numbers
   pub all_go : (plan : Refusals) (i : ℕ) (olds marks news : List (Place (Worker F S D E C P N O K L s o k n)))
       → marks ≡ marked plan i olds → AllZip (Ends content faults lent spawning dialling moments) marks news
@@ -60,5 +62,5 @@ module _ {F S D E C P N O K L : Type 0} {s : SpawnerGhosts S O K L} {o : SourceG
       go plan i [] (new ∷ news) all = absurd all
       go plan i (old ∷ olds) [] all = absurd all
       go plan i (old ∷ olds) (new ∷ news) all =
-          (goes_by (is_refused plan i) (job_of old.worker) (job_of new.worker) all.0.runs all.0.off,
+          (goes_by content faults lent spawning dialling moments (is_refused plan i) (job_of old.worker) (job_of new.worker) all.0.runs all.0.off,
           go plan (suc i) olds news all.1)

@@ -7,6 +7,7 @@
 
 mod marking;
 mod place;
+mod task;
 mod worker;
 mod working;
 

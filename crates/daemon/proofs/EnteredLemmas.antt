@@ -176,13 +176,19 @@ module _ (old new : Devices) (slots : Slots) (content : Option (List ℕ → Lis
 
   replier_enters : (h : ℕ) (off : Bool) → IfRun off (ReplierRan h seen) (IsReplierOff h seen)
       → (all : List Entry) × (under (writer_of h) seen ≡ all) × All (MayEnter off (IsOfReplier h)) all
-  replier_enters h false ran =
-      (_, ran.made, runs_fit (IsOfReplier h) _
-      (all_flat (IsOfReplier h) (IsServed h) entries_in (served_fits h) ran.rounds ran.good))
+  replier_enters h false ran = (
+    _,
+    ran.made,
+    runs_fit (IsOfReplier h) _
+        (all_flat (IsOfReplier h) (IsServed h) entries_in (served_fits h) ran.rounds ran.good),
+  )
   replier_enters h true (inl off) = (_, off, off_fits (IsOfReplier h))
-  replier_enters h true (inr (inc, low, off)) =
-      (_, off, All-cons (MayEnter true (IsOfReplier h)) Stopped (HelperDeaf h inc ∷ []) (inr (refl, refl))
-      (all_one (MayEnter true (IsOfReplier h)) (HelperDeaf h inc) (inl refl)))
+  replier_enters h true (inr (inc, low, off)) = (
+    _,
+    off,
+    All-cons (MayEnter true (IsOfReplier h)) Stopped (HelperDeaf h inc ∷ []) (inr (refl, refl))
+        (all_one (MayEnter true (IsOfReplier h)) (HelperDeaf h inc) (inl refl)),
+  )
 
   talker_enters : (n : ℕ) (off : Bool) (was now : Dialling) → IfRun off (TalkerRan slots.helpers n was now seen)
       (IsCalledOff (talker_of slots.helpers n) seen × (now ≡ was))
@@ -206,25 +212,44 @@ by_worker refused old new content path slots last run made has = of named.0 name
   where
     named : (k : ℕ) × (k < workers slots.helpers slots.peers) × (made.name ≡ child_name [] k)
     named = run.history.named made has
+
     of : (k : ℕ) → made.name ≡ child_name [] k → Which slots.helpers slots.peers k
         → IsByWorker refused old.moments content path slots made
     of k is (inl (h, low, at)) =
         let name_is : made.name ≡ reader_of h = is ∙ ap (λ n. child_name [] n) at in
         let enters = reader_enters old new slots content path last.seen h (refused (h + h)) _ _ (run.readers h low) in
-        inl (h, low, name_is, fits_under (MayEnter (refused (h + h)) (IsOfReader old.moments h)) (reader_of h) last.seen
-        made enters.0 name_is has enters.1 enters.2)
+        inl (
+          h,
+          low,
+          name_is,
+          fits_under (MayEnter (refused (h + h)) (IsOfReader old.moments h)) (reader_of h) last.seen
+              made enters.0 name_is has enters.1 enters.2,
+        )
     of k is (inr (inl (h, low, at))) =
         let name_is : made.name ≡ writer_of h = is ∙ ap (λ n. child_name [] n) at in
         let enters = replier_enters old new slots content path last.seen h (refused (h + h + 1)) (run.repliers h low) in
-        inr (inl (h, low, name_is, fits_under (MayEnter (refused (h + h + 1)) (IsOfReplier h)) (writer_of h) last.seen
-        made enters.0 name_is has enters.1 enters.2))
+        inr (inl (
+          h,
+          low,
+          name_is,
+          fits_under (MayEnter (refused (h + h + 1)) (IsOfReplier h)) (writer_of h) last.seen
+              made enters.0 name_is has enters.1 enters.2,
+        ))
     of k is (inr (inr (inl (n, low, at)))) =
         let name_is : made.name ≡ talker_of slots.helpers n = is ∙ ap (λ n. child_name [] n) at in
         let enters = talker_enters old new slots content path last.seen n (refused (slots.helpers + slots.helpers + n)) _ _ (run.talkers n low) in
-        inr (inr (inl (n, low, name_is, fits_under (MayEnter (refused (slots.helpers + slots.helpers + n)) (IsOfTalker n))
-        (talker_of slots.helpers n) last.seen made enters.0 name_is has enters.1 enters.2)))
+        inr (inr (inl (
+          n,
+          low,
+          name_is,
+          fits_under (MayEnter (refused (slots.helpers + slots.helpers + n)) (IsOfTalker n))
+              (talker_of slots.helpers n) last.seen made enters.0 name_is has enters.1 enters.2,
+        )))
     of k is (inr (inr (inr at))) =
         let name_is : made.name ≡ keeper_of slots.helpers slots.peers = is ∙ ap (λ n. child_name [] n) at in
         let enters = keeper_enters old new slots content path last.seen (refused (slots.helpers + slots.helpers + slots.peers)) _ _ run.keeper in
-        inr (inr (inr (name_is, fits_under (MayEnter (refused (slots.helpers + slots.helpers + slots.peers)) (IsOfKeeper content path slots))
-        (keeper_of slots.helpers slots.peers) last.seen made enters.0 name_is has enters.1 enters.2)))
+        inr (inr (inr (
+          name_is,
+          fits_under (MayEnter (refused (slots.helpers + slots.helpers + slots.peers)) (IsOfKeeper content path slots))
+              (keeper_of slots.helpers slots.peers) last.seen made enters.0 name_is has enters.1 enters.2,
+        )))

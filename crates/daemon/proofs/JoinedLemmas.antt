@@ -62,14 +62,17 @@ module _ {A E : Type 0} where
     where
       room : ℕ
       room = room_share (room_left pass.room count)
+
       last : Known A E
       last = child_of pass (pass.next + count) room
+
       cases : (count k : ℕ) → k < suc count → (k < count) ⊎ (count ≡ k)
       cases zero zero below = inr refl
       cases zero (suc k) below = absurd (omega arith)
       cases (suc count) zero below = inl (omega arith)
       cases (suc count) (suc k) below = ⊎_elim (λ (b : k < count). inl (omega arith)) (λ (e : count ≡ k). inr (ap suc e))
           (cases count k (omega arith))
+
       at_last : slice_index_or (children_of pass (suc count)) count q ≡ last
       at_last = subst (λ n. slice_index_or (children_of pass count ++ last ∷ []) n q ≡ last) (count_children pass count)
           (get_or-append_seam (children_of pass count) last [] q)
@@ -150,8 +153,11 @@ given_name zero name has = absurd (contains_none name has)
 given_name (suc count) name has =
     ⊎_elim (λ (old : Contains (child_names [] 0 count) name). let found = given_name count name old in
     (found.0, omega (arith, found.1), found.2))
-    (λ (new : Contains (child_name [] (0 + count) ∷ []) name). (count, omega arith,
-    sym (contains_one (child_name [] (0 + count)) name new) ∙ ap (λ n. n ∷ []) (omega arith)))
+    (λ (new : Contains (child_name [] (0 + count) ∷ []) name). (
+      count,
+      omega arith,
+      sym (contains_one (child_name [] (0 + count)) name new) ∙ ap (λ n. n ∷ []) (omega arith),
+    ))
     (Contains-append_cases (child_names [] 0 count) (child_name [] (0 + count) ∷ []) name has)
 
 module _ {A E : Type 0} (law : A → List E → E → Type 0) (gate : TableId) (start : A) (count : ℕ)
@@ -183,8 +189,11 @@ module _ {A E : Type 0} (law : A → List E → E → Type 0) (gate : TableId) (
       }
 
   back : (other : Known A E) → Contains passes' other → (k : ℕ) × IsBack k other
-  back other has = (has.0, subst (IsBack has.0) has.2
-      (back_at has.0 other (omega (arith, has.1, were.0, news.count_is))))
+  back other has = (
+    has.0,
+    subst (IsBack has.0) has.2
+        (back_at has.0 other (omega (arith, has.1, were.0, news.count_is))),
+  )
 
   first_name : later.name ≡ []
   first_name = ap (λ (it : Known A E). it.name) many.becomes ∙ ap (λ (it : Known A E). it.name) is
@@ -254,8 +263,12 @@ module _ {A E : Type 0} (law : A → List E → E → Type 0) (gate : TableId) (
 
   -- what is seen is legal
   pub all_legal : (from : A) × (last.start ≡ Some from) × Legal law from (entries last.seen)
-  all_legal = all.legal (start, first_start, λ before entry front. absurd (none_behind before entry
-      (subst (λ it. IsPrefix (before ++ entry ∷ []) (entries it)) first_seen front)))
+  all_legal = all.legal (
+    start,
+    first_start,
+    λ before entry front. absurd (none_behind before entry
+        (subst (λ it. IsPrefix (before ++ entry ∷ []) (entries it)) first_seen front)),
+  )
     where
       none_behind : (before : List E) (entry : E) → IsPrefix (before ++ entry ∷ []) [] → ⊥
       none_behind before entry front = omega (arith, ap length front.1, length-append (before ++ entry ∷ []) front.0, length-append before (entry ∷ []))

@@ -85,6 +85,7 @@ runs_stop refused old new content path slots last run stop =
   where
     found : Found is_stop last.seen
     found = some_entry is_stop last.seen stop
+
     of : IsByWorker refused old.moments content path slots found.0
         → (k : ℕ) × (k < workers slots.helpers slots.peers) × (refused k ≡ true)
     of (inl (h, low, name, inl own)) = absurd (reader_no_stop old.moments h found.0.entry own found.2)
@@ -308,23 +309,30 @@ runs_shut_down refused old new content path slots last run none =
   where
     ends : (front : List Entry) × (under (keeper_of slots.helpers slots.peers) last.seen ≡ front ++ stop_told ∷ [])
     ends = (runs_end refused old new content path slots last run none).keeper
+
     found : Found is_told last.seen
     found = some_entry is_told last.seen (any_of_under is_told (keeper_of slots.helpers slots.peers) last.seen
         (ap (list_any is_told) ends.1 ∙ any_last is_told ends.0 stop_told refl))
+
     before : List (Signed Entry)
     before = (split_at last.seen found.0 found.1).0
+
     front : IsPrefix (before ++ found.0 ∷ []) last.seen
     front = (split_at last.seen found.0 found.1).1
+
     legal : control.Stop ≡ directed (reverse (entries before))
     legal =
         subst (λ entry. Allows run.history.legal.0 (reverse (entries before)) entry) (told_is found.0.entry found.2)
         (run.history.legal.2 (entries before) found.0.entry
         (subst (λ front. IsPrefix front (entries last.seen)) (entries-push before found.0)
         (entries-prefix (before ++ found.0 ∷ []) last.seen front)))
+
     stopping : is_stopping (reverse (entries before)) ≡ true
     stopping = stop_told_when (is_stopping (reverse (entries before))) (is_reload_due (reverse (entries before))) legal
+
     earlier : IsPrefix before last.seen
     earlier = (found.0 ∷ front.0, sym (append_assoc before (found.0 ∷ []) front.0) ∙ front.1)
+
     of : (list_any is_shutdown (reverse (entries before)) ≡ true) ⊎ (list_any is_stop (reverse (entries before)) ≡ true)
         → HasShutdown last.seen
     of (inl shut) = any_stays is_shutdown before last.seen earlier (any_reverse is_shutdown (entries before) shut)
@@ -336,6 +344,7 @@ runs_answer refused old new content path slots last run none h inc taken faults 
   where
     served : ReplierRan h last.seen
     served = ran _ _ (refused (h + h + 1)) (none (h + h + 1) (omega arith)) (run.repliers h low)
+
     of : IsAnswered (writer_of h) h inc taken faults back.before ⊎ (TookNothing taken × HasStop back.before)
         → IsAnswered (writer_of h) h inc taken faults last.seen
     of (inl answered) = answers_stay (writer_of h) h inc 0 served.last taken faults served.rounds back.before last.seen

@@ -1,4 +1,17 @@
+pub mod AnswerLemmas
+pub mod ApartLemmas
+pub mod BackLemmas
+pub mod DoneLemmas
+pub mod EndingLemmas
 pub mod EnteredLemmas
 pub mod JoinedLemmas
 pub mod LawLemmas
+pub mod LaysLemmas
+pub mod MakingLemmas
+pub mod OrderLemmas
+pub mod PutLemmas
 pub mod RanLemmas
+pub mod RunLemmas
+pub mod StepLemmas
+pub mod WholeLemmas
+pub mod WordsLemmas

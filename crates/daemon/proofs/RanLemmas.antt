@@ -29,7 +29,7 @@ use Rattle.daemon.specs.Names.{keeper_of, reader_of, talker_of, workers}
 use Rattle.control_worker.proofs.LentLemmas.{lent_same}
 use Rattle.daemon.specs.Runs.{Devices, IsCalledOff, IsHistory, IsReplierOff, IsRun, KeeperRan, ReaderRan, ReplierRan}
 use Rattle.daemon.specs.Runs.{TalkerRan, devices, dialling_at, spawning_at}
-use Rattle.daemon.proofs.JoinedLemmas.{WereMade, AreNew, all_legal, all_named, are_new, made_by, same_start}
+use Rattle.daemon.proofs.JoinedLemmas.{WereMade, AreNew, all_legal, all_named, are_new, made_by, same_start, still}
 
 -- a number of a job is that of a reader, a replier, a talker or the keeper
 abbrev pub Which : ℕ → ℕ → ℕ → Type 0
@@ -64,8 +64,12 @@ which (suc helpers) peers (suc (suc k)) below = next (which helpers peers k (ome
     next (inr (inr (inr is))) = inr (inr (inr (omega arith)))
 
 -- a pass made entries
-abbrev HasMade : Pass → Pass → Type 0
+abbrev pub HasMade : Pass → Pass → Type 0
 HasMade pass later = (made : List Entry) × Makes pass made later
+
+-- a pass that made entries is of its gate
+pub same_gate : (pass later : Pass) → HasMade pass later → later.gate ≡ pass.gate
+same_gate pass later made = (still pass later made.0 made.1).3
 
 -- what is left of the pass of a number, which made entries, in a history
 record LeftBy (k : ℕ) (pass later : Pass) (seen : List (Signed Entry)) : Type 0 where
@@ -185,12 +189,10 @@ module _ {F S D : Type 0} (content : F → Option (List ℕ → List ℕ)) (faul
     files files' passes passes')
     (helpers_are : length helpers ≡ slots.helpers) (helpers_back : length helpers' ≡ length helpers)
     (peers_are : length peers ≡ slots.peers) (peers_back : length peers' ≡ length peers) where
-  made_at : (k : ℕ) (q : Pass) → k < workers slots.helpers slots.peers
+  pub made_at : (k : ℕ) (q : Pass) → k < workers slots.helpers slots.peers
       → HasMade (slice_index_or passes k q) (slice_index_or passes' k q)
   made_at k q below = of (which slots.helpers slots.peers k below)
     where
-      Made : ℕ → Type 0
-      Made k = HasMade (slice_index_or passes k q) (slice_index_or passes' k q)
       of : Which slots.helpers slots.peers k → HasMade (slice_index_or passes k q) (slice_index_or passes' k q)
       of (inl (h, low, is)) =
           let s = some_item helpers h (omega arith) in
@@ -213,12 +215,6 @@ module _ {F S D : Type 0} (content : F → Option (List ℕ → List ℕ)) (faul
       (many : IsMany opened (workers slots.helpers slots.peers) later passes)
       (all : IsAllJoined (λ start entries entry. Allows start (reverse entries) entry) later passes' last)
       (config : IsConfigAt (content files) path slots start) where
-    count : ℕ
-    count = workers slots.helpers slots.peers
-
-    law : Sections → List Entry → Entry → Type 0
-    law start entries entry = Allows start (reverse entries) entry
-
     news : AreNew gate (workers slots.helpers slots.peers) passes
     news = are_new gate start (workers slots.helpers slots.peers) opened later passes is many
 
@@ -234,12 +230,6 @@ module _ {F S D : Type 0} (content : F → Option (List ℕ → List ℕ)) (faul
           (made_by (λ start entries entry. Allows start (reverse entries) entry) gate start (workers slots.helpers slots.peers) opened later last passes passes' is many were all k q made below makes).0;
       front = (made_by (λ start entries entry. Allows start (reverse entries) entry) gate start (workers slots.helpers slots.peers) opened later last passes passes' is many were all k q _ below (made_at k q below).1).1;
     }
-
-    old : Devices
-    old = devices spawning dialling moments helpers peers (faults files)
-
-    new : Devices
-    new = devices spawning dialling moments helpers' peers' (faults files')
 
     pub is_run : IsRun refused (devices spawning dialling moments helpers peers (faults files))
         (devices spawning dialling moments helpers' peers' (faults files')) (content files) path slots last

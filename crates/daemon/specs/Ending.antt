@@ -1,6 +1,6 @@
 -- How a run of the daemon ends, by its status: what is then true of the world that it was given, and of the one that it
 -- gives back.
-use Rattle.std.specs.Prelude.{ℕ, ◌≡◌, ◌⊎◌, ◌+◌, ⊤, ⊥, Bool, true, false, List, [], ◌∷◌, length, reverse, codes}
+use Rattle.std.specs.Prelude.{ℕ, ◌≡◌, ◌⊎◌, ◌+◌, ⊤, Bool, true, false, List, [], ◌∷◌, length, reverse, codes}
 use Rattle.std.specs.declared.option.Option.{Option}
 use Rattle.std.specs.declared.option.Option.TheVariants.{Some, None}
 use Rattle.outside.specs.Lent.{LendsNone}
@@ -30,10 +30,21 @@ use Rattle.daemon.specs.declared.world.World.{World}
 abbrev pub run_words : List ℕ → List (List ℕ)
 run_words path = codes "run" ∷ path ∷ []
 
+-- the content of a path is told, and is a configuration for these slots
+abbrev pub IsToldConfig : Option (List ℕ → List ℕ) → List ℕ → Slots → Type 0
+IsToldConfig None path slots = ⊥
+IsToldConfig (Some content) path slots = (config : Sections) × Configures (content path) slots config
+
+-- the content of a path is told, and has this first fault
+abbrev pub IsToldFault : Option (List ℕ → List ℕ) → List ℕ → Slots → ConfigFault → Type 0
+IsToldFault None path slots fault = ⊥
+IsToldFault (Some content) path slots fault = IsFirstFault (content path) slots fault
+
 module _ {F S D C P E : Type 0} where
-  -- the slots that a world has devices for
-  abbrev pub slots_of : World F S D C P E → Slots
-  slots_of world = record { helpers = length world.helpers.items; peers = length world.peers.items }
+  -- as many slots as a world has devices for
+  abbrev pub AreSlots : Slots → World F S D C P E → Type 0
+  AreSlots slots world =
+      (slots.helpers ≡ length world.helpers.items) × (slots.peers ≡ length world.peers.items)
 
   -- how many workers these slots have
   abbrev pub workers_for : World F S D C P E → ℕ
@@ -53,40 +64,50 @@ module _ {F S D C P E : Type 0} where
     pub peers : length new.peers.items ≡ length old.peers.items
     pub ears : length new.ears.items ≡ length old.ears.items
 
-module _ {F S D C P E : Type 0} (content : F → Option (List ℕ → List ℕ)) (faults : F → ℕ) (lent : F → Option ℕ)
-    (spawning : S → Spawning) (dialling : D → Dialling) (moments : C → Option (ℕ → Bool)) where
+module _ {F S D C P E : Type 0} (content : F → Option (List ℕ → List ℕ)) (lent : F → Option ℕ) where
   -- the files have the content that they had, and all that they opened
   abbrev pub HasFiles : World F S D C P E → World F S D C P E → Type 0
   HasFiles old new = (content new.files ≡ content old.files) × LendsNone (lent old.files) (lent new.files)
 
+module _ {F S D C P E : Type 0} (content : F → Option (List ℕ → List ℕ)) where
+  -- the file at a path has this first fault
+  abbrev pub HasFault : List ℕ → World F S D C P E → ConfigFault → Type 0
+  HasFault path world fault =
+      (slots : Slots) × AreSlots slots world × IsFaultAt (content world.files) path slots fault
+
+  -- its content is told, and is a configuration
+  abbrev pub HasToldConfig : List ℕ → World F S D C P E → Type 0
+  HasToldConfig path world =
+      (slots : Slots) → AreSlots slots world → IsToldConfig (content world.files) path slots
+
+  -- its content is told, and has this first fault
+  abbrev pub HasToldFault : List ℕ → World F S D C P E → ConfigFault → Type 0
+  HasToldFault path world fault =
+      (slots : Slots) → AreSlots slots world → IsToldFault (content world.files) path slots fault
+
+module _ {F S D C P E : Type 0} (content : F → Option (List ℕ → List ℕ)) (faults : F → ℕ) (spawning : S → Spawning)
+    (dialling : D → Dialling) (moments : C → Option (ℕ → Bool)) where
   -- the last pass has the history of a run, from the configuration of the file at a path
   pub record HasRunOf (path : List ℕ) (old new : World F S D C P E) : Type 0 where
+    pub slots : Slots
+    pub slots_are : AreSlots slots old
     pub last : Pass
     pub last_is : new.last ≡ Some last
     pub run : IsRun (is_refused old.crew)
         (devices spawning dialling (moments old.clock) old.helpers.items old.peers.items (faults old.files))
         (devices spawning dialling (moments old.clock) new.helpers.items new.peers.items (faults new.files))
-        (content old.files) path (slots_of old) last
+        (content old.files) path slots last
 
+  -- what each status leaves: a run of all workers, or of some that were refused; and else no worker was started
   abbrev pub EndsAs : List ℕ → World F S D C P E → Status → World F S D C P E → Type 0
   EndsAs path old status.Ok new = HasRunOf path old new × RefusesNone old.crew (workers_for old)
   EndsAs path old status.NoCrew new =
       HasRunOf path old new × RefusesOne old.crew (workers_for old) × Rose old.crew.faults new.crew.faults
   EndsAs path old status.ConfigRead new = IsKept old new × CountsOne (faults old.files) (faults new.files)
   EndsAs path old (status.ConfigRefused fault) new =
-      IsKept old new × (faults new.files ≡ faults old.files) × IsFaultAt (content old.files) path (slots_of old) fault
+      IsKept old new × (faults new.files ≡ faults old.files) × HasFault content path old fault
   EndsAs path old status.NoMemory new = IsKept old new × (faults new.files ≡ faults old.files)
   EndsAs path old _ new = ⊥
-
--- the content of a path is told, and is a configuration for these slots
-abbrev pub IsToldConfig : Option (List ℕ → List ℕ) → List ℕ → Slots → Type 0
-IsToldConfig None path slots = ⊥
-IsToldConfig (Some content) path slots = (config : Sections) × Configures (content path) slots config
-
--- the content of a path is told, and has this first fault
-abbrev pub IsToldFault : Option (List ℕ → List ℕ) → List ℕ → Slots → ConfigFault → Type 0
-IsToldFault None path slots fault = ⊥
-IsToldFault (Some content) path slots fault = IsFirstFault (content path) slots fault
 
 -- the status of a configuration that wasn't read
 abbrev pub status_for : NotRead → Status

@@ -6,6 +6,7 @@
 #![tactic(auto)]
 
 mod apart;
+mod laws;
 mod making;
 mod run;
 mod running;
@@ -15,5 +16,6 @@ mod tests;
 mod words;
 mod world;
 
+pub use laws::runs_tell;
 pub use run::exabgp_run;
 pub use world::{Ran, World};

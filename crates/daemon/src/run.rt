@@ -7,11 +7,20 @@ ghost use Rattle.helper_worker.specs.Rounds.{told as told_by};
 ghost use Rattle.outside.specs.Told.{Rose};
 ghost use Rattle.peer_worker.specs.Rounds.{told};
 ghost use Rattle.daemon.specs.Ending.{
-    EndsAs, HasFiles, IsBack, IsLastOf, IsOpenedBy, IsToldConfig, IsToldFault, run_words, slots_of,
-    status_by, status_for,
+  AreSlots,
+  EndsAs,
+  HasFiles,
+  HasToldConfig,
+  HasToldFault,
+  IsBack,
+  IsLastOf,
+  IsOpenedBy,
+  run_words,
+  status_by,
+  status_for,
 };
 
-use crate::running::{Left, run_jobs, workers};
+use crate::running::{ConfigPath, Left, run_jobs, workers};
 use crate::stock::Stock;
 use crate::words::run_path;
 use crate::world::{Ran, World};
@@ -77,12 +86,12 @@ pub fn exabgp_run<
     // A file that has a first fault is refused for it, and by one that is a configuration the workers run to their end, if
     // memory suffices and nothing fails.
     ensures refuses { (path : List ℕ) (fault : Fault) → map (λ word. word.now) words.now ≡ run_words path
-        → IsToldFault (F.content world.entry.files) path (slots_of world.entry) fault
+        → HasToldFault F.content path world.entry fault
         → ¬ Rose (F.faults world.entry.files) (F.faults result.world.files)
         → ¬ Rose world.entry.crew.faults result.world.crew.faults
         → (result.status ≡ Status.ConfigRefused fault) ⊎ (result.status ≡ Status.NoMemory) }
     ensures complete { (path : List ℕ) → map (λ word. word.now) words.now ≡ run_words path
-        → IsToldConfig (F.content world.entry.files) path (slots_of world.entry)
+        → HasToldConfig F.content path world.entry
         → ¬ Rose (F.faults world.entry.files) (F.faults result.world.files)
         → ¬ Rose world.entry.crew.faults result.world.crew.faults
         → (result.status ≡ Status.Ok) ⊎ (result.status ≡ Status.NoMemory) }
@@ -124,7 +133,10 @@ fn run_file<
     ensures files { HasFiles F.content F.lent world.entry result.world }
     ensures back { IsBack world.entry result.world }
 {
-    let slots = slots_of(&world);
+    let slots = Slots {
+        helpers: world.helpers.len(),
+        peers: world.peers.len(),
+    };
     let config = match read_config_at(alloc, &mut world.files, path, slots) {
         Ok(config) => config,
         Err(why) => {
@@ -135,21 +147,11 @@ fn run_file<
         }
     };
     match open_gate(alloc, config, world.hasher) {
-        Some(opened) => run_gate(rt, alloc, path, opened, world),
+        Some(opened) => run_gate(rt, alloc, path, slots, opened, world),
         None => Ran {
             status: Status::NoMemory,
             world,
         },
-    }
-}
-
-// The slots that a world has devices for.
-fn slots_of<F, S, D, C, P, E>(world: &World<'_, F, S, D, C, P, E>) -> Slots
-    ensures { result ≡ slots_of world.now }
-{
-    Slots {
-        helpers: world.helpers.len(),
-        peers: world.peers.len(),
     }
 }
 
@@ -187,14 +189,15 @@ fn run_gate<
     rt: &R,
     alloc: Global,
     path: &str,
+    slots: Slots,
     opened: Opened<Book>,
     world: World<'a, F, S, D, C, P, E>,
 ) -> Ran<'a, F, S, D, C, P, E>
     requires helpers { length world.helpers.items ≤ max_helpers }
     requires peers { length world.peers.items ≤ max_peers }
     requires ears { length world.ears.items ≡ length world.peers.items }
-    requires opened { IsOpenedBy (F.content world.files) path.now (slots_of world) opened.gate
-        opened.pass }
+    requires slots { AreSlots slots world }
+    requires opened { IsOpenedBy (F.content world.files) path.now slots opened.gate opened.pass }
     ensures ends { EndsAs F.content F.faults
         (λ spawner. told_by (S.children spawner) (S.asked spawner) (S.failed spawner))
         (λ dialer. told (D.links dialer) (D.asked dialer) (D.failed dialer)) C.moments
@@ -202,7 +205,6 @@ fn run_gate<
     ensures files { HasFiles F.content F.lent world.entry result.world }
     ensures back { IsBack world.entry result.world }
 {
-    let slots = slots_of(&world);
     let Opened { gate, mut pass } = opened;
     let Ok(passes) = split_many(alloc, &gate, &mut pass, workers(slots)) else {
         return Ran {
@@ -221,6 +223,7 @@ fn run_gate<
         mut crew,
         last,
     } = world;
+    let path = ConfigPath { text: path };
     let mut stock = Stock {
         passes,
         helpers,
@@ -281,9 +284,5 @@ fn end(
 fn status_by(every: bool) -> Status
     ensures { result ≡ status_by (Some every) }
 {
-    if every {
-        Status::Ok
-    } else {
-        Status::NoCrew
-    }
+    if every { Status::Ok } else { Status::NoCrew }
 }

@@ -22,6 +22,14 @@ use std::alloc::Global;
 use std::sync::Wait;
 use std::thread::Threads;
 
+/// The path of a configuration.
+///
+/// A struct, since `N` can't be chosen at a call that takes a `&str`.
+#[derive(Clone, Copy)]
+pub struct ConfigPath<'a> {
+    pub text: &'a str,
+}
+
 /// What is left of the jobs.
 #[derive(Drop)]
 pub struct Left<F> {
@@ -56,7 +64,7 @@ pub fn run_jobs<
     rt: &R,
     alloc: Global,
     gate: &'g Gate<Book>,
-    path: &'g str,
+    path: ConfigPath<'g>,
     slots: Slots,
     files: F,
     clock: C,
@@ -73,7 +81,7 @@ pub fn run_jobs<
     ensures done { IfSome result.all (λ all. JobsDone F.content F.faults F.lent
         (λ spawner. told_by (S.children spawner) (S.asked spawner) (S.failed spawner))
         (λ dialer. told (D.links dialer) (D.asked dialer) (D.failed dialer))
-        (is_refused crew.old) (C.moments clock) path.now slots
+        (is_refused crew.old) (C.moments clock) path.entry.text.now slots
         stock.old.helpers.items stock.new.helpers.items
         stock.old.peers.items stock.new.peers.items files result.files
         stock.old.passes.items stock.new.passes.items) }
@@ -87,7 +95,7 @@ pub fn run_jobs<
         × Rose crew.old.faults crew.new.faults) }
     ensures refused { crew.new.refused ≡ crew.old.refused }
 {
-    let made = make_all(alloc, gate, path, slots, files, clock, pause, stock);
+    let made = make_all(alloc, gate, path.text, slots, files, clock, pause, stock);
     let places: Vec<Place<Worker<'g, F, S, D, E, C, P, N>>> = match made {
         Ok(places) => places,
         Err(files) => return Left { files, all: None },

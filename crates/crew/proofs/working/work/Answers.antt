@@ -11,4 +11,5 @@ returns-clause-went g c =
     all_go files.content files.faults files.lent
     (λ it. told_by (spawner.children it) (spawner.asked it) (spawner.failed it))
     (λ it. told (dialer.links it) (dialer.asked it) (dialer.failed it)) g.C.Clock.moments
-    c.args.plan.now 0 c.args.places.items ? ? ? ?
+    c.args.plan.now 0 c.args.places.items c.mark_all-places.result.places.items c.end_all.result.items
+    c.mark_all-places.ensures.marked c.end_all.ensures
