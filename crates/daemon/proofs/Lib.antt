@@ -4,6 +4,7 @@ pub mod BackLemmas
 pub mod DoneLemmas
 pub mod EndingLemmas
 pub mod EnteredLemmas
+pub mod GoneLemmas
 pub mod JoinedLemmas
 pub mod LawLemmas
 pub mod LaysLemmas

@@ -13,7 +13,7 @@ use Rattle.daemon.specs.Laid.{AreWhole, Gains, HasRoom, IsFull, IsLaid, IsUsedUp
 use Rattle.daemon.specs.Names.{workers}
 use Rattle.daemon.specs.declared.stock.Stock.{Stock}
 use Rattle.daemon.proofs.DoneLemmas.{all_alike, jobs_done}
-use Rattle.daemon.proofs.WholeLemmas.{SameCounts, alike_counts, helpers_whole, laid_count, laid_devices, room_again}
+use Rattle.daemon.proofs.GoneLemmas.{SameCounts, alike_counts, helpers_whole, laid_count, laid_devices, room_again}
 
 -- a list that was empty has just what it gained
 only_gained : {A : Type 0} (left got all : List A) → left ≡ [] → all ≡ left ++ got → all ≡ got
