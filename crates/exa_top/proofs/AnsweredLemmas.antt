@@ -1,23 +1,21 @@
 -- What a command that was run shows of its devices, by how it ended.
 use Rattle.std.proofs.Common.{ℕ, ◌≡◌, ◌<◌, List, [], ◌++◌, length, Option, Some, None, refl, sym}
 use Rattle.std.proofs.Common.{ap, subst, arith, append-nil, length-append, inl, inr}
-use Rattle.route_values.specs.declared.addr.Family.TheVariants.{Ipv4}
-use Rattle.route_values.specs.declared.settings.Side.{Side}
 use Rattle.outside.specs.Seen.{SourceSeen, SinkSeen}
 use Rattle.outside.specs.Told.{Grows}
-use Rattle.update_grammar.specs.Laws.{EndIsSpelled}
 use Rattle.script_grammar.specs.Scripts.{script_lines}
 use Rattle.text_history.specs.Plays.{IsPlayPart}
 use Rattle.script_play.specs.declared.status.Status.{Status}
 use Rattle.script_play.specs.declared.status.Status.TheVariants as status
 use Rattle.exa_top.specs.declared.words.TextCommand.{TextCommand}
-use Rattle.exa_top.specs.declared.words.TextCommand.TheVariants.{Encode, Check, Play, Parse, Decode, Help, Version}
-use Rattle.exa_top.specs.Encoding.{IsEncoding, marker, last_text}
+use Rattle.exa_top.specs.declared.words.TextCommand.TheVariants.{Encode, EncodePlain, Check, Play, Load, Parse, Decode}
+use Rattle.exa_top.specs.declared.words.TextCommand.TheVariants.{Help, Version}
+use Rattle.exa_top.specs.Encoded.{plain_of}
 use Rattle.exa_top.specs.Parsing.{IsParsing}
 use Rattle.exa_top.specs.Played.{IsPlayed, IsShown}
 use Rattle.exa_top.specs.Top.{input_limit, IsOutput, IsPartOutput, ReadToEnd, ReadsWhole, ReadPart, ReadNothing}
 use Rattle.exa_top.specs.Top.{ReadsPart, ReadsInput, IsConfigured, Broke, GaveFrom, IsLeft, Answered, Wrote}
-use Rattle.exa_top.proofs.OutputLemmas.{some_encoding, some_parsing, parted}
+use Rattle.exa_top.proofs.OutputLemmas.{encoded_is_part, some_parsing}
 
 -- what isn't touched has grown by nothing
 pub grows_none : (told : Option (List ℕ)) → Grows told told []
@@ -48,11 +46,14 @@ untouched_is_few source source' bytes whole from =
 pub whole_is_few : (content : Option (List ℕ → List ℕ)) (command : TextCommand) (source source' : SourceSeen)
     (bytes : List ℕ) → ReadsWhole content command source source' bytes
     → GaveFrom input_limit source.given source'.given → ⊥
-whole_is_few content (Encode side) source source' bytes whole = few_given input_limit source.given source'.given bytes
-    whole.given whole.short
+whole_is_few content (Encode path) source source' bytes whole = few_given input_limit source.given source'.given bytes
+    whole.0.given whole.0.short
+whole_is_few content (EncodePlain ends) source source' bytes whole = few_given input_limit source.given source'.given
+    bytes whole.given whole.short
 whole_is_few content (Check path) source source' bytes whole = untouched_is_few source source' bytes whole.0
 whole_is_few content (Play path) source source' bytes whole = few_given input_limit source.given source'.given bytes
     whole.0.given whole.0.short
+whole_is_few content (Load count) source source' bytes whole = untouched_is_few source source' bytes whole
 whole_is_few content Parse source source' bytes whole = few_given input_limit source.given source'.given bytes
     whole.given whole.short
 whole_is_few content (Decode caps) source source' bytes whole = few_given input_limit source.given source'.given bytes
@@ -83,9 +84,11 @@ played_is_part content path script output played = record {
 -- what ended well had its configuration
 pub whole_is_configured : (content : Option (List ℕ → List ℕ)) (command : TextCommand) (source source' : SourceSeen)
     (bytes : List ℕ) → ReadsWhole content command source source' bytes → IsConfigured content command
-whole_is_configured content (Encode side) source source' bytes whole = tt
+whole_is_configured content (Encode path) source source' bytes whole = whole.1
+whole_is_configured content (EncodePlain ends) source source' bytes whole = tt
 whole_is_configured content (Check path) source source' bytes whole = whole.1
 whole_is_configured content (Play path) source source' bytes whole = whole.1
+whole_is_configured content (Load count) source source' bytes whole = tt
 whole_is_configured content Parse source source' bytes whole = tt
 whole_is_configured content (Decode caps) source source' bytes whole = tt
 whole_is_configured content Help source source' bytes whole = tt
@@ -103,10 +106,14 @@ part_of_whole source source' bytes whole = record {
 -- the output of a command that came to its end is one of a command that didn't have to
 pub whole_is_part : (content : Option (List ℕ → List ℕ)) (command : TextCommand) (input early late : List ℕ)
     → IsOutput content command input early late → IsPartOutput content command input early late
-whole_is_part content (Encode side) input early late outcome = outcome
+whole_is_part content (Encode path) input early late outcome =
+    inr (outcome.0, outcome.1, encoded_is_part outcome.0 input early late outcome.2)
+whole_is_part content (EncodePlain ends) input early late outcome =
+    inr (encoded_is_part (plain_of ends) input early late outcome)
 whole_is_part content (Check path) input early late outcome = outcome
 whole_is_part content (Play path) input early late outcome =
     (inr (played_is_part content path.now input early outcome.0), outcome.1)
+whole_is_part content (Load count) input early late outcome = (outcome.0, inr outcome.1)
 whole_is_part content Parse input early late outcome = outcome
 whole_is_part content (Decode caps) input early late outcome = outcome
 whole_is_part content Help input early late outcome = outcome
@@ -189,17 +196,6 @@ text_written content command source sink sink' text ends whole part outcome wrot
     let Of : List ℕ → Type 0 = λ all. Wrote all sink sink' ends in
     written content command source source sink sink' [] text [] ends whole part outcome refl
     (subst Of (sym (append-nil text)) wrote)
-
--- `encode` that read its input and wrote the output
-pub encoding_written : (content : Option (List ℕ → List ℕ)) (side : Side) (source source' : SourceSeen)
-    (sink sink' : SinkSeen) (input text : List ℕ) (ends : Status) → ReadToEnd source source' input
-    → IsEncoding side input text → source'.faults ≡ source.faults → Wrote text sink sink' ends
-    → Answered content (Encode side) source source' sink sink' ends
-encoding_written content side source source' sink sink' input text ends whole encoding same wrote =
-    let parts = parted side input text encoding in
-    let Of : List ℕ → Type 0 = λ all. Wrote all sink sink' ends in
-    written content (Encode side) source source' sink sink' input parts.early parts.late ends whole
-    (part_of_whole source source' input whole) parts.outcome same (subst Of parts.output_is wrote)
 
 -- `parse` that read its input and wrote the output
 pub parsing_written : (content : Option (List ℕ → List ℕ)) (source source' : SourceSeen) (sink sink' : SinkSeen)
@@ -295,14 +291,6 @@ stopped content command source source' sink input early late status.ConfigRead r
     absurd left
 stopped content command source source' sink input early late (status.ConfigRefused fault) reads good part outcome left =
     absurd left
-
--- `encode` whose input was left before its end
-pub encoding_stopped : EndIsSpelled Ipv4 → (content : Option (List ℕ → List ℕ)) (side : Side)
-    (source source' : SourceSeen) (sink : SinkSeen) (input : List ℕ) (ends : Status) → ReadPart source source' input
-    → IsLeft source source' ends → Answered content (Encode side) source source' sink sink ends
-encoding_stopped law content side source source' sink input ends part left =
-    let some = some_encoding law side input in
-    stopped content (Encode side) source source' sink input some.0 (last_text marker) ends tt tt part some.1 left
 
 -- `parse` whose input was left before its end
 pub parsing_stopped : (content : Option (List ℕ → List ℕ)) (source source' : SourceSeen) (sink : SinkSeen)

@@ -8,7 +8,8 @@ use Rattle.script_play.specs.declared.status.Status.TheVariants as status
 use Rattle.exa_top.specs.declared.words.TextCommand.{TextCommand}
 use Rattle.text_history.specs.Configured.{IsFaultAt}
 use Rattle.script_play.specs.Status.{IsUnread}
-use Rattle.exa_top.specs.declared.words.TextCommand.TheVariants.{Encode, Check, Play, Parse, Decode, Help, Version}
+use Rattle.exa_top.specs.declared.words.TextCommand.TheVariants.{Encode, EncodePlain, Check, Play, Load, Parse, Decode}
+use Rattle.exa_top.specs.declared.words.TextCommand.TheVariants.{Help, Version}
 use Rattle.exa_top.specs.Top.{Answered, EndsAtOnce, IsPartOutput, IsRefusedFor, NamesFile, ReadsPart}
 use Rattle.exa_top.proofs.AnsweredLemmas.{nothing_written, read_none, untouched_is_few}
 
@@ -92,9 +93,11 @@ unread_stopped content command source sink late path slots status.InputLong name
 -- a command that a fault is told of names a file
 pub refused_names : (content : Option (List ℕ → List ℕ)) (command : TextCommand) (fault : ConfigFault)
     → IsRefusedFor content command fault → NamesFile command
-refused_names content (Encode side) fault refused = refused
+refused_names content (Encode path) fault refused = tt
+refused_names content (EncodePlain ends) fault refused = refused
 refused_names content (Check path) fault refused = tt
 refused_names content (Play path) fault refused = tt
+refused_names content (Load count) fault refused = refused
 refused_names content Parse fault refused = refused
 refused_names content (Decode caps) fault refused = refused
 refused_names content Help fault refused = refused

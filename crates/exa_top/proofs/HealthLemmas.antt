@@ -4,7 +4,7 @@ use Rattle.std.specs.declared.option.Option.{Option}
 use Rattle.std.specs.declared.option.Option.TheVariants.{Some, None}
 use Rattle.config_model.specs.declared.fault.ConfigFault.{ConfigFault}
 use Rattle.config_reader.specs.Files.{too_long}
-use Rattle.outside.specs.Opening.{IsContent, IsLonger}
+use Rattle.outside.specs.Opening.{IsLonger}
 use Rattle.outside.specs.Probing.{Checked}
 use Rattle.outside.specs.Seen.{SinkSeen}
 use Rattle.outside.specs.Told.{CountsOne, Rose}

@@ -1,9 +1,3 @@
-pub mod CommandLemmas
-pub mod EncodingLemmas
-pub mod LeavesLemmas
-pub mod SendingLemmas
-pub mod SlotLemmas
-pub mod TookLemmas
 pub mod AnsweredLemmas
 pub mod OutputLemmas
 pub mod CapLemmas
@@ -15,4 +9,7 @@ pub mod DecodedLemmas
 pub mod CompleteLemmas
 pub mod FileLemmas
 pub mod PlayedLemmas
+pub mod PlainLemmas
+pub mod LoadedLemmas
+pub mod EncodedLemmas
 pub mod HealthLemmas

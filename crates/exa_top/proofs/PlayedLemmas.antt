@@ -4,13 +4,12 @@ use Rattle.std.proofs.Common.{inl, inr, arith, append-nil, length-append, codes,
 use Rattle.std.specs.Borrow.{Bor}
 use Rattle.outside.specs.Seen.{SourceSeen, SinkSeen}
 use Rattle.outside.specs.Told.{AreLeft, CountsOne, Grows, Shrinks}
-use Rattle.config_model.specs.declared.fault.ConfigFault.{ConfigFault}
 use Rattle.config_model.specs.declared.slots.Slots.{Slots}
 use Rattle.config_model.specs.Sections.{Sections}
 use Rattle.book_history.specs.Entries.{History}
 use Rattle.book_history.specs.Legal.{IsLegal}
 use Rattle.answer_texts.specs.Shown.{all_of, shown}
-use Rattle.text_history.specs.Configured.{AreTextSlots, IsConfigAt, IsFaultAt}
+use Rattle.text_history.specs.Configured.{AreTextSlots, IsConfigAt}
 use Rattle.text_history.specs.Plays.{IsPlayPart, IsRefusedAt}
 use Rattle.script_grammar.specs.Scripts.{script_lines}
 use Rattle.script_play.specs.declared.status.Status.{Status}
@@ -22,16 +21,17 @@ use Rattle.script_play.specs.Streams.{ReadPart as GavePart}
 use Rattle.script_play.specs.Streams.{part as in_part, unopened}
 use Rattle.script_play.proofs.ScriptLemmas.{lines_front}
 use Rattle.exa_top.specs.declared.words.TextCommand.{TextCommand}
-use Rattle.exa_top.specs.declared.words.TextCommand.TheVariants.{Encode, Check, Play, Parse, Decode, Help, Version}
+use Rattle.exa_top.specs.declared.words.TextCommand.TheVariants.{Encode, EncodePlain, Check, Play, Load, Parse, Decode}
+use Rattle.exa_top.specs.declared.words.TextCommand.TheVariants.{Help, Version}
 use Rattle.exa_top.specs.Words.{IsCommand}
-use Rattle.exa_top.specs.Played.{CountsUnread, IsBadScript, IsLeftRefused, IsPlayedOver, IsShown, IsUnplayed}
+use Rattle.exa_top.specs.Played.{CountsUnread, IsBadScript, IsLeftRefused}
 use Rattle.exa_top.specs.Played.{PlaysFile}
 use Rattle.exa_top.specs.Top.{input_limit, Answered, Broke, HasBadLine, PlaysIts, PlaysScript, ReadPart, Ran}
-use Rattle.exa_top.proofs.AnsweredLemmas.{few_given, grows_none, nothing_written}
+use Rattle.exa_top.proofs.AnsweredLemmas.{few_given, grows_none}
 use Rattle.exa_top.proofs.CheckedLemmas.{unread_stopped}
 
 -- a part of the input, in the words of the other commands
-read_part : (source source' : SourceSeen) (bytes : List ℕ) → GavePart source source' bytes
+pub read_part : (source source' : SourceSeen) (bytes : List ℕ) → GavePart source source' bytes
     → ReadPart source source' bytes
 read_part source source' bytes is = record { given = is.given; left = is.left; short = is.short }
 
@@ -39,7 +39,7 @@ shrinks_none : (left : Option (List ℕ)) → Shrinks left left []
 shrinks_none None = tt
 shrinks_none (Some rest) = refl
 
-read_nothing : (source : SourceSeen) → ReadPart source source []
+pub read_nothing : (source : SourceSeen) → ReadPart source source []
 read_nothing source = record {
   given = grows_none source.given;
   left = shrinks_none source.left;
@@ -366,7 +366,7 @@ played_answered content path source source' sink sink' files files' ends (inr is
     is.plays
 
 -- the count of files' faults behind a file that gave no configuration
-counts_unread : (files files' : ℕ) (ends : Status) → (ends ≡ status.ConfigRead → CountsOne files files')
+pub counts_unread : (files files' : ℕ) (ends : Status) → (ends ≡ status.ConfigRead → CountsOne files files')
     → (¬ (ends ≡ status.ConfigRead) → files' ≡ files) → CountsUnread files files' ends
 counts_unread files files' status.ConfigRead counts same = counts refl
 counts_unread files files' status.Ok counts same = same (λ is. absurd (cc))
@@ -411,7 +411,7 @@ played_over content content' path source source' sink sink' files between files'
     })
 
 -- words that are the same begin with the same letter
-same_letter : (words others : List (List ℕ)) → words ≡ others
+pub same_letter : (words others : List (List ℕ)) → words ≡ others
     → get_or (get_or words 0 []) 0 0 ≡ get_or (get_or others 0 []) 0 0
 same_letter words others same = ap (λ all. get_or (get_or all 0 []) 0 0) same
 
@@ -424,13 +424,17 @@ pub plays_named : (content : Option (List ℕ → List ℕ)) (words : List (List
     → IsCommand words command → words ≡ codes "play" ∷ path ∷ []
     → PlaysIts content command source source' sink sink' files files' ends
     → PlaysFile content path source source' sink sink' files files' ends
-plays_named content words (Encode side) path source source' sink sink' files files' ends is named plays =
+plays_named content words (Encode p) path source source' sink sink' files files' ends is named plays =
+    let letter : 101 ≡ 112 = same_letter _ _ (sym is ∙ named) in absurd (omega (arith, letter))
+plays_named content words (EncodePlain e) path source source' sink sink' files files' ends is named plays =
     let letter : 101 ≡ 112 = same_letter _ _ (sym is.words_are ∙ named) in absurd (omega (arith, letter))
 plays_named content words (Check p) path source source' sink sink' files files' ends is named plays =
     let letter : 99 ≡ 112 = same_letter _ _ (sym is ∙ named) in absurd (omega (arith, letter))
 plays_named content words (Play p) path source source' sink sink' files files' ends is named plays =
     subst (λ (at : List ℕ). PlaysFile content at source source' sink sink' files files' ends)
     (same_path p.now path (sym is ∙ named)) plays
+plays_named content words (Load count) path source source' sink sink' files files' ends is named plays =
+    let letter : 108 ≡ 112 = same_letter _ _ (sym is.0 ∙ named) in absurd (omega (arith, letter))
 plays_named content words Parse path source source' sink sink' files files' ends is named plays =
     let longer : 1 ≡ 2 = ap length (sym is ∙ named) in absurd (omega (arith, longer))
 plays_named content words (Decode caps) path source source' sink sink' files files' ends is named plays =
@@ -443,9 +447,11 @@ plays_named content words Version path source source' sink sink' files files' en
 -- a script that is refused was played
 pub refused_plays : (content : Option (List ℕ → List ℕ)) (command : TextCommand) (left : Option (List ℕ))
     → HasBadLine content command left → PlaysScript command
-refused_plays content (Encode side) left bad = bad
+refused_plays content (Encode p) left bad = bad
+refused_plays content (EncodePlain e) left bad = bad
 refused_plays content (Check p) left bad = bad
 refused_plays content (Play p) left bad = tt
+refused_plays content (Load count) left bad = bad
 refused_plays content Parse left bad = bad
 refused_plays content (Decode caps) left bad = bad
 refused_plays content Help left bad = bad

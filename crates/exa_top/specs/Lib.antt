@@ -1,13 +1,11 @@
-pub mod Commands
-pub mod Answers
-pub mod Encoding
 pub mod Parsing
 pub mod Files
 pub mod CapWords
+pub mod Plain
+pub mod Loaded
 pub mod Words
 pub mod Decoded
 pub mod Played
+pub mod Encoded
 pub mod Top
-pub mod Slots
-pub mod Messages
 pub mod Health

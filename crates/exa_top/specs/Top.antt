@@ -1,7 +1,6 @@
 -- What a text command does to its input and its output, and what it takes from files. Each device is seen before a call
 -- and after it; what is seen after the call has a prime. Of files the content by path is seen, where it is told.
 use Rattle.std.specs.Prelude.{ℕ, ◌≡◌, ◌⊎◌, ◌+◌, ◌^◌, ◌<◌, ◌≤◌, codes, true, List, [], ◌++◌, length, ⊤}
-use Rattle.std.specs.List.{flat_map}
 use Rattle.std.specs.declared.option.Option.{Option}
 use Rattle.std.specs.declared.option.Option.TheVariants.{Some, None}
 use Rattle.outside.specs.Seen.{SourceSeen, SinkSeen}
@@ -10,13 +9,17 @@ use Rattle.config_model.specs.declared.slots.Slots.{Slots}
 use Rattle.config_model.specs.Sections.{Sections}
 use Rattle.config_reader.specs.Files.{Configures, IsFirstFault}
 use Rattle.outside.specs.Told.{Grows, Shrinks, AreLeft, AreLeftFrom, CountsOne}
+use Rattle.script_play.specs.Encoding.{Encodes}
+use Rattle.script_play.specs.Loads.{max_routes}
 use Rattle.script_play.specs.declared.status.Status.{Status}
 use Rattle.script_play.specs.declared.status.Status.TheVariants as status
 use Rattle.exa_top.specs.declared.words.TextCommand.{TextCommand}
-use Rattle.exa_top.specs.declared.words.TextCommand.TheVariants.{Encode, Check, Play, Parse, Decode, Help, Version}
-use Rattle.exa_top.specs.Answers.{reply_text}
+use Rattle.exa_top.specs.declared.words.TextCommand.TheVariants.{Encode, EncodePlain, Check, Play, Load, Parse, Decode}
+use Rattle.exa_top.specs.declared.words.TextCommand.TheVariants.{Help, Version}
 use Rattle.text_history.specs.Configured.{AreTextSlots, IsConfigAt, IsFaultAt}
-use Rattle.exa_top.specs.Encoding.{IsEncoding}
+use Rattle.exa_top.specs.Encoded.{EncodesFile, IsEncoded, IsEncodedAtMost, IsEncodedPart, IsHeardAt, IsToldHeard}
+use Rattle.exa_top.specs.Encoded.{IsToldUnheard, IsUnheardAt, no_process, plain_of}
+use Rattle.exa_top.specs.Loaded.{IsLoaded}
 use Rattle.exa_top.specs.Parsing.{IsParsing}
 use Rattle.exa_top.specs.Played.{IsBadScript, IsPlayed, IsPlayedPart, IsToldScript, PlaysFile}
 use Rattle.exa_top.specs.Words.{IsCommand}
@@ -38,12 +41,14 @@ checked_text = codes "ok\n"
 -- what `--help` writes
 abbrev pub help_text : List ℕ
 help_text =
-    codes "usage: exabgpd encode LOCAL_AS PEER_AS LOCAL_IP\n"
-    ++ codes "           reads announce and withdraw lines, writes replies and UPDATE messages\n"
+    codes "usage: exabgpd encode CONFIG\n" ++ codes "       exabgpd encode LOCAL_AS PEER_AS LOCAL_IP\n"
+    ++ codes "           reads a helper's lines, writes replies, and UPDATE messages at their end\n"
     ++ codes "       exabgpd check CONFIG\n"
     ++ codes "           reads a configuration file, writes ok or says what its first fault is\n"
     ++ codes "       exabgpd play CONFIG\n"
     ++ codes "           reads a script of events, writes what each is answered\n"
+    ++ codes "       exabgpd load COUNT\n"
+    ++ codes "           announces so many routes, withdraws each second one, writes nine counts\n"
     ++ codes "       exabgpd parse\n"
     ++ codes "           reads command lines, writes for each whether it reads or where its first fault is\n"
     ++ codes "       exabgpd decode CAP ..\n"
@@ -54,34 +59,48 @@ help_text =
     ++ codes "       exabgpd --version\n" ++ codes "           writes the name and the version\n"
 
 -- The output that belongs to a command and what it read: what may be written while that is read, and what only after
--- its end. Replies to lines come early, and the messages late, and so does the line of `check`. What `decode` and
--- `play` write comes as early as the lines that it belongs to.
+-- its end. Replies to lines come early, and the messages late, and so do the line of `check` and the counts of `load`.
+-- What `decode` and `play` write comes as early as the lines that it belongs to.
 abbrev pub IsOutput : Option (List ℕ → List ℕ) → TextCommand → List ℕ → List ℕ → List ℕ → Type 0
-IsOutput content (Encode side) input early late =
-    (whole : IsEncoding side input (early ++ late)) × (early ≡ flat_map reply_text whole.entries)
+IsOutput content (Encode path) input early late =
+    (config : Sections) × IsHeardAt content path.now config × IsEncoded config input early late
+IsOutput content (EncodePlain ends) input early late = IsEncoded (plain_of ends) input early late
 IsOutput content (Check path) input early late = (early ≡ []) × (late ≡ checked_text)
 IsOutput content (Play path) input early late = IsPlayed content path.now input early × (late ≡ [])
+IsOutput content (Load count) input early late = (early ≡ []) × IsLoaded count late
 IsOutput content Parse input early late = IsParsing input early × (late ≡ [])
 IsOutput content (Decode caps) input early late = IsDecoding caps input early × (late ≡ [])
 IsOutput content Help input early late = (early ≡ help_text) × (late ≡ [])
 IsOutput content Version input early late = (early ≡ version_text) × (late ≡ [])
 
 -- The output of a command that didn't come to its end. A script may be refused at a line, and then no output belongs to
--- the whole of it.
+-- the whole of it; a load may find no memory, and then nothing is told of it; of a helper's lines the front may have
+-- been answered, or nothing, where the book isn't opened.
 abbrev pub IsPartOutput : Option (List ℕ → List ℕ) → TextCommand → List ℕ → List ℕ → List ℕ → Type 0
+IsPartOutput content (Encode path) input early late =
+    ((early ≡ []) × (late ≡ []))
+    ⊎ ((config : Sections) × IsHeardAt content path.now config × IsEncodedPart config input early late)
+IsPartOutput content (EncodePlain ends) input early late = IsEncodedAtMost (plain_of ends) input early late
 IsPartOutput content (Play path) input early late = IsPlayedPart content path.now input early × (late ≡ [])
+IsPartOutput content (Load count) input early late = (early ≡ []) × ((late ≡ []) ⊎ IsLoaded count late)
 IsPartOutput content command input early late = IsOutput content command input early late
 
--- the file that a command names, if it names one, is a configuration for the slots of a text command
+-- the file that a command names, if it names one, is a configuration for the slots of a text command; that of `encode`
+-- has a process
 abbrev pub IsConfigured : Option (List ℕ → List ℕ) → TextCommand → Type 0
+IsConfigured content (Encode path) = (config : Sections) × IsHeardAt content path.now config
 IsConfigured content (Check path) =
     (slots : Slots) × AreTextSlots slots × (config : Sections) × IsConfigAt content path.now slots config
 IsConfigured content (Play path) =
     (slots : Slots) × AreTextSlots slots × (config : Sections) × IsConfigAt content path.now slots config
 IsConfigured content _ = ⊤
 
--- a command names a file, whose bytes have this first fault
+-- a command names a file, whose bytes have this first fault; or it is `encode`, and they are a configuration without a
+-- process
 abbrev pub IsRefusedFor : Option (List ℕ → List ℕ) → TextCommand → ConfigFault → Type 0
+IsRefusedFor content (Encode path) fault =
+    (slots : Slots) × AreTextSlots slots
+    × (IsFaultAt content path.now slots fault ⊎ (IsUnheardAt content path.now slots × (fault ≡ no_process)))
 IsRefusedFor content (Check path) fault =
     (slots : Slots) × AreTextSlots slots × IsFaultAt content path.now slots fault
 IsRefusedFor content (Play path) fault =
@@ -96,6 +115,7 @@ IsToldConfig (Some content) path =
 
 -- the same of the file that a command names, if it names one
 abbrev pub HasConfig : Option (List ℕ → List ℕ) → TextCommand → Type 0
+HasConfig content (Encode path) = IsToldHeard content path.now
 HasConfig content (Check path) = IsToldConfig content path.now
 HasConfig content (Play path) = IsToldConfig content path.now
 HasConfig content _ = ⊤
@@ -108,19 +128,23 @@ IsToldFault (Some content) path fault =
 
 -- the same of the file that a command names
 abbrev pub HasFault : Option (List ℕ → List ℕ) → TextCommand → ConfigFault → Type 0
+HasFault content (Encode path) fault =
+    IsToldFault content path.now fault ⊎ (IsToldUnheard content path.now × (fault ≡ no_process))
 HasFault content (Check path) fault = IsToldFault content path.now fault
 HasFault content (Play path) fault = IsToldFault content path.now fault
 HasFault content _ fault = ⊥
 
 -- a command names a file
 abbrev pub NamesFile : TextCommand → Type 0
+NamesFile (Encode path) = ⊤
 NamesFile (Check path) = ⊤
 NamesFile (Play path) = ⊤
 NamesFile _ = ⊥
 
 -- a command reads its input
 abbrev pub ReadsInput : TextCommand → Type 0
-ReadsInput (Encode side) = ⊤
+ReadsInput (Encode path) = ⊤
+ReadsInput (EncodePlain ends) = ⊤
 ReadsInput (Play path) = ⊤
 ReadsInput Parse = ⊤
 ReadsInput (Decode caps) = ⊤
@@ -169,14 +193,17 @@ pub record ReadNothing (source source' : SourceSeen) (bytes : List ℕ) : Type 0
   pub same : source' ≡ source
   pub none : bytes ≡ []
 
--- what a command reads that ends well: `check` and `play` their file, and all but `check`, `--help` and `--version` the
--- whole of their input
+-- what a command reads that ends well: `encode`, `check` and `play` their file, and all but `check`, `load`, `--help`
+-- and `--version` the whole of their input
 abbrev pub ReadsWhole : Option (List ℕ → List ℕ) → TextCommand → SourceSeen → SourceSeen → List ℕ → Type 0
-ReadsWhole content (Encode side) source source' bytes = ReadToEnd source source' bytes
+ReadsWhole content (Encode path) source source' bytes =
+    ReadToEnd source source' bytes × IsConfigured content (Encode path)
+ReadsWhole content (EncodePlain ends) source source' bytes = ReadToEnd source source' bytes
 ReadsWhole content (Check path) source source' bytes =
     ReadNothing source source' bytes × IsConfigured content (Check path)
 ReadsWhole content (Play path) source source' bytes =
     ReadToEnd source source' bytes × IsConfigured content (Play path)
+ReadsWhole content (Load count) source source' bytes = ReadNothing source source' bytes
 ReadsWhole content Parse source source' bytes = ReadToEnd source source' bytes
 ReadsWhole content (Decode caps) source source' bytes = ReadToEnd source source' bytes
 ReadsWhole content Help source source' bytes = ReadNothing source source' bytes
@@ -185,9 +212,11 @@ ReadsWhole content Version source source' bytes = ReadNothing source source' byt
 -- What a command may have read of its input that ends in another way. `decode` may have read more than what its output
 -- belongs to: the last line isn't answered before its end is known.
 abbrev pub ReadsPart : TextCommand → SourceSeen → SourceSeen → List ℕ → Type 0
-ReadsPart (Encode side) source source' bytes = ReadPart source source' bytes
+ReadsPart (Encode path) source source' bytes = ReadPart source source' bytes
+ReadsPart (EncodePlain ends) source source' bytes = ReadPart source source' bytes
 ReadsPart (Check path) source source' bytes = ReadNothing source source' bytes
 ReadsPart (Play path) source source' bytes = ReadPart source source' bytes
+ReadsPart (Load count) source source' bytes = ReadNothing source source' bytes
 ReadsPart Parse source source' bytes = ReadPart source source' bytes
 ReadsPart (Decode caps) source source' bytes = ReadFront source source' bytes
 ReadsPart Help source source' bytes = ReadNothing source source' bytes
@@ -320,12 +349,26 @@ PlayScript words = (command : TextCommand) × IsCommand words command × PlaysSc
 abbrev pub HaveScript : List (List ℕ) → Option (List ℕ → List ℕ) → Option (List ℕ) → Type 0
 HaveScript words content left = (command : TextCommand) → IsCommand words command → HasScript content command left
 
+-- a command asks for no more routes than a load has at most
+abbrev pub IsBounded : TextCommand → Type 0
+IsBounded (Load count) = count ≤ max_routes
+IsBounded _ = ⊤
+
 -- what a command leaves that plays a script
 abbrev pub PlaysIts : Option (List ℕ → List ℕ) → TextCommand → SourceSeen → SourceSeen → SinkSeen → SinkSeen → ℕ → ℕ
     → Status → Type 0
 PlaysIts content (Play path) source source' sink sink' files files' ends =
     PlaysFile content path.now source source' sink sink' files files' ends
 PlaysIts content _ source source' sink sink' files files' ends = ⊤
+
+-- what a command leaves that encodes a helper's lines
+abbrev pub EncodesIts : Option (List ℕ → List ℕ) → TextCommand → SourceSeen → SourceSeen → SinkSeen → SinkSeen → ℕ → ℕ
+    → Status → Type 0
+EncodesIts content (Encode path) source source' sink sink' files files' ends =
+    EncodesFile content path.now source source' sink sink' files files' ends
+EncodesIts content (EncodePlain ends_of) source source' sink sink' files files' ends =
+    Encodes (plain_of ends_of) source source' sink sink' ends
+EncodesIts content _ source source' sink sink' files files' ends = ⊤
 
 -- a source tells what it has left, and that is fewer bytes than the limit
 abbrev pub IsLeftShort : ℕ → Option (List ℕ) → Type 0

@@ -8,8 +8,8 @@ ghost use Rattle.outside.specs.Told.{CountsOne, Rose};
 ghost use Rattle.exa_top.specs.Health.{HealthEnds, IsHealthAt, IsHealthUnread, IsHealthcheck};
 ghost use Rattle.exa_top.specs.Health.{IsToldHealth, IsToldHealthFault, WatchEnds};
 
-use crate::command::is;
 use crate::files::{bytes_at, status_wrong};
+use crate::words::is;
 use health_core::{Health, Unwatched, health_files_say_one, read_health, watch};
 use outside::{Files, Pause, Probe, Sink};
 use script_play::Status;

@@ -1,25 +1,24 @@
 //! The text commands of exabgpd, from bytes to bytes.
 //!
-//! `exabgp_text` runs the command that its words spell: `encode` reads lines and writes replies and BGP UPDATE messages
-//! (RFC 4271, section 4.3), `parse` says of each line how it reads, `decode` tells messages as lines, and `check` reads
-//! a configuration file. The crate stands on `outside` (sources, sinks, files), `command_grammar` and `route_grammar`
-//! (lines as `parse` reads them), `message_decoder` (messages in a stream), `config_reader`, `config_model` and
-//! `token_reader` (configurations), `text_forms` (lines, words, numbers), `update_grammar`, `update_codec` and
-//! `attr_codec` (messages), and `route_values`. It holds no session, starts no thread and packs one route a message.
-//! Its own `Command` and its table go when the book comes, one state for all commands.
+//! `exabgp_text` runs the command that its words spell: `encode` answers a helper's lines and writes the BGP UPDATE
+//! messages that they leave (RFC 4271, section 4.3), `play` and `load` run the same engine over a script and over a
+//! large input, `parse` says of each line how it reads, `decode` tells messages as lines, and `check` reads a
+//! configuration file. The crate stands on `script_play` (the engine over text), `outside` (sources, sinks, files),
+//! `command_grammar` and `route_grammar` (lines as `parse` reads them), `message_decoder` (messages in a stream),
+//! `config_reader` and `config_model` (configurations), `health_core` and `text_forms`. It holds no session and starts
+//! no thread.
 #![tactic(auto)]
 
-mod answering;
 mod caps;
-mod command;
 mod decoding;
 mod encoding;
 mod files;
+mod hashing;
 mod health;
-mod messages;
+mod loading;
 mod parsing;
+mod plain;
 mod playing;
-mod table;
 mod top;
 mod words;
 

@@ -7,13 +7,12 @@ use std::test::Fail;
 
 mod checking;
 mod decoding;
+mod encoding;
+mod loading;
 mod playing;
 mod watching;
 
 const ROUTE: &str = "announce route 10.0.0.0/24 next-hop 192.0.2.1\n";
-
-// The End-of-RIB marker of IPv4 as the last message.
-const END: &str = "update 0 last FFFFFFFFFFFFFFFFFFFFFFFFFFFFFFFF00170200000000\n";
 
 // How a command ended, what it wrote, and how often its input and its output failed.
 #[derive(Drop)]
@@ -46,78 +45,6 @@ fn run(
         reads_failed: source.faults(),
         writes_failed: sink.faults(),
     })
-}
-
-#[test]
-fn lines_are_answered_and_the_messages_leave_what_they_say(rt: HostRuntime) -> Result<(), Fail> {
-    let external = ["encode", "65001", "65002", "192.0.2.9"];
-    let internal = ["encode", "65001", "65001", "192.0.2.9"];
-    let table: [(&str, [&str; 4], &str, &str); 6] = [
-        ("no line", external, "", ""),
-        (
-            "a route to a neighbour of another AS",
-            external,
-            ROUTE,
-            "done\nupdate 0 more FFFFFFFFFFFFFFFFFFFFFFFFFFFFFFFF\
-             002F02\
-             00000014\
-             40010100\
-             40020602010000FDE9\
-             400304C0000201\
-             180A0000\n",
-        ),
-        (
-            "a route to a neighbour of the own AS",
-            internal,
-            ROUTE,
-            "done\nupdate 0 more FFFFFFFFFFFFFFFFFFFFFFFFFFFFFFFF\
-             003002\
-             00000015\
-             40010100\
-             400200\
-             400304C0000201\
-             40050400000064\
-             180A0000\n",
-        ),
-        (
-            "a route that goes",
-            external,
-            "announce route 10.0.0.0/24 next-hop 192.0.2.1\nwithdraw route 10.0.0.0/24\n",
-            "done\ndone\n",
-        ),
-        (
-            "the later of two next hops",
-            external,
-            "announce route 10.0.0.0/24 next-hop 192.0.2.7\r\n\n\
-             announce\troute 10.0.0.0/24  next-hop 192.0.2.1\n",
-            "done\ndone\nupdate 0 more FFFFFFFFFFFFFFFFFFFFFFFFFFFFFFFF\
-             002F02\
-             00000014\
-             40010100\
-             40020602010000FDE9\
-             400304C0000201\
-             180A0000\n",
-        ),
-        (
-            "lines that don't read, and an unfinished one",
-            external,
-            "announce route 10.0.0.1/24 next-hop 192.0.2.1\n\
-             announce route 10.0.0.0/33 next-hop 192.0.2.1\n\
-             announce route 10.0.0.0/24\n\
-             withdraw route 10.0.0.0/24 now\n\
-             announce route 10.0.0.0/24 next-hop 192.0.2.1",
-            "error\nerror\nerror\nerror\n",
-        ),
-    ];
-    for (case, words, input, wanted) in table {
-        let done = run(rt.alloc(), &words, input, &[], &[])?;
-        let mut whole = String::new(rt.alloc());
-        whole.push_str(wanted)?;
-        whole.push_str(END)?;
-        assert_eq!(rt; done.status, Status::Ok, "{case}");
-        assert_eq!(rt; done.output.as_str(), whole.as_str(), "{case}");
-    }
-    Ok(())
 }
 
 // Lines, and what is written for each.
@@ -196,14 +123,14 @@ fn help_and_version_write_their_texts(rt: HostRuntime) -> Result<(), Fail> {
     assert!(rt;
         help.output
             .as_str()
-            .starts_with("usage: exabgpd encode LOCAL_AS PEER_AS LOCAL_IP\n")
+            .starts_with("usage: exabgpd encode CONFIG\n")
     );
     Ok(())
 }
 
 #[test]
 fn words_that_spell_no_command_are_usage_and_touch_nothing(rt: HostRuntime) -> Result<(), Fail> {
-    let table: [&[&str]; 12] = [
+    let table: [&[&str]; 13] = [
         &[],
         &["frob"],
         &["encode"],
@@ -212,7 +139,8 @@ fn words_that_spell_no_command_are_usage_and_touch_nothing(rt: HostRuntime) -> R
         &["play"],
         &["play", "one.conf", "two.conf"],
         &["parse", "one.conf"],
-        &["encode", "one.conf"],
+        &["encode", "65001", "65002"],
+        &["encode", "65001", "65002", "192.0.2.9", "192.0.2.10"],
         &["encode", "0", "65002", "192.0.2.9"],
         &["encode", "65001", "65002", "192.0.2.256"],
         &["--version", "--help"],
@@ -227,20 +155,6 @@ fn words_that_spell_no_command_are_usage_and_touch_nothing(rt: HostRuntime) -> R
     Ok(())
 }
 
-#[test]
-fn a_fault_of_the_outside_ends_the_command(rt: HostRuntime) -> Result<(), Fail> {
-    let words = ["encode", "65001", "65002", "192.0.2.9"];
-    let unread = run(rt.alloc(), &words, ROUTE, &[1], &[])?;
-    assert_eq!(rt; unread.status, Status::ReadFault);
-    assert_eq!(rt; unread.output.as_str(), "");
-    assert_eq!(rt; unread.reads_failed, 1);
-    let unwritten = run(rt.alloc(), &words, ROUTE, &[], &[1])?;
-    assert_eq!(rt; unwritten.status, Status::WriteFault);
-    assert_eq!(rt; unwritten.output.as_str(), "done\nupdate 0 more F");
-    assert_eq!(rt; unwritten.writes_failed, 1);
-    Ok(())
-}
-
 // A text filled up with spaces to so many bytes, as a line.
 fn line_of(alloc: Global, text: &str, count: usize) -> Result<String, Fail> {
     let mut line = String::new(alloc);
@@ -250,51 +164,6 @@ fn line_of(alloc: Global, text: &str, count: usize) -> Result<String, Fail> {
     }
     line.push('\n')?;
     Ok(line)
-}
-
-#[test]
-fn a_line_has_65535_bytes_at_most_and_a_longer_one_is_an_error(
-    rt: HostRuntime,
-) -> Result<(), Fail> {
-    let words = ["encode", "65001", "65002", "192.0.2.9"];
-    let table: [(&str, usize, &str); 4] = [
-        ("withdraw route 10.0.0.0/24", 65_535, "done\n"),
-        ("withdraw route 10.0.0.0/24", 65_536, "error\n"),
-        ("announce route 10.0.0.0/24", 65_535, "error\n"),
-        ("announce route 10.0.0.0/24", 65_536, "error\n"),
-    ];
-    for (text, count, reply) in table {
-        let line = line_of(rt.alloc(), text, count)?;
-        let done = run(rt.alloc(), &words, line.as_str(), &[], &[])?;
-        let mut wanted = String::new(rt.alloc());
-        wanted.push_str(reply)?;
-        wanted.push_str(END)?;
-        assert_eq!(rt; done.status, Status::Ok, "{text}, {count}");
-        assert_eq!(rt; done.output.as_str(), wanted.as_str(), "{text}, {count}");
-    }
-    Ok(())
-}
-
-#[test]
-fn memory_suffices_for_a_mebibyte_and_a_thousand_prefixes(rt: HostRuntime) -> Result<(), Fail> {
-    let words = ["encode", "65001", "65002", "192.0.2.9"];
-    let mut input = String::new(rt.alloc());
-    let mut replies = String::new(rt.alloc());
-    for number in 0..1_100 {
-        let (high, low) = (number / 256, number % 256);
-        let text = format!(in rt.alloc();
-            "announce route 10.{high}.{low}.0/24 next-hop 192.0.2.1"
-        )?;
-        input.push_str(line_of(rt.alloc(), text.as_str(), 1_000)?.as_str())?;
-        replies.push_str("done\n")?;
-    }
-    let done = run(rt.alloc(), &words, input.as_str(), &[], &[])?;
-    assert!(rt; input.len() > 1 << 20);
-    assert_eq!(rt; done.status, Status::Ok);
-    assert!(rt; done.output.as_str().starts_with(replies.as_str()));
-    assert_eq!(rt; done.output.as_str().lines().count(), 2 * 1_100 + 1);
-    assert!(rt; done.output.as_str().ends_with(END));
-    Ok(())
 }
 
 #[test]

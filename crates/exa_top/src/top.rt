@@ -2,31 +2,34 @@
 ghost use Rattle.std.specs.Prelude.{◌≡◌, ◌⊎◌, codes, List, [], ◌∷◌, ℕ, Option, map};
 ghost use Rattle.std.specs.Prelude.{IfOk, IfErr, OnOk, OnErr};
 ghost use Rattle.config_model.specs.declared.fault.ConfigFault.{ConfigFault as Fault};
+ghost use Rattle.exa_top.specs.Encoded.{EncodesFile, plain_of};
 ghost use Rattle.exa_top.specs.Played.{PlaysFile};
-ghost use Rattle.exa_top.specs.Top.{Answered, AreConfigured, Began, EndsAtOnce, EndsLate, Finished};
+ghost use Rattle.exa_top.specs.Top.{Answered, AreConfigured, Began, EncodesIts, EndsAtOnce};
+ghost use Rattle.exa_top.specs.Top.{EndsLate, Finished};
 ghost use Rattle.exa_top.specs.Top.{GaveFrom, GaveLimit, HaveConfig, HaveFault, HaveScript, IsLeft};
-ghost use Rattle.exa_top.specs.Top.{IsLeftShort, IsOverrun};
+ghost use Rattle.exa_top.specs.Top.{IsBounded, IsLeftShort, IsOverrun};
 ghost use Rattle.exa_top.specs.Top.{NameFile, NamesFile, PlayScript, PlaysIts, PlaysScript};
 ghost use Rattle.exa_top.specs.Top.{ReadInput, ReadPart, ReadToEnd, Refuses, Wrote, input_limit};
-ghost use Rattle.exa_top.specs.Words.{IsCommand};
+ghost use Rattle.exa_top.specs.Words.{IsCommand, IsEncode};
+ghost use Rattle.exa_top.specs.declared.words.Ends.{Ends as Session};
 ghost use Rattle.exa_top.specs.declared.words.TextCommand.{TextCommand as Spelled};
-ghost use Rattle.exa_top.specs.declared.words.TextCommand.TheVariants.{Encode, Check, Parse};
+ghost use Rattle.exa_top.specs.declared.words.TextCommand.TheVariants.{Check, Parse};
 ghost use Rattle.outside.specs.Lent.{LendsNone};
 ghost use Rattle.outside.specs.Seen.{SourceSeen, source_seen, sink_seen};
 ghost use Rattle.outside.specs.Told.{CountsOne, Rose};
+ghost use Rattle.script_play.specs.Encoding.{Encodes};
 
 use crate::decoding::decode;
-use crate::encoding::encode_all;
+use crate::encoding::{encode_over, encode_plain};
+use crate::loading::load_plain;
 use crate::parsing::parse_all;
 use crate::playing::play_over;
 use crate::words::{TextCommand, text_command};
 use config_model::{MAX_HELPERS, MAX_PEERS, Slots};
 use config_reader::files_say_one;
 use outside::{Files, Sink, Source, Unread, read_all, write_all};
-use route_values::Side;
 use script_play::{Status, configured};
 use std::alloc::Global;
-use update_grammar::written_is_spelled;
 
 /// How many bytes of input are too many.
 pub const MAX_INPUT: usize = 1 << 40;
@@ -44,12 +47,15 @@ const CHECKED: &[u8] = b"ok\n";
 const VERSION: &[u8] = b"exabgpd 0.1.0\n";
 
 // What `--help` writes.
-const HELP: &[u8] = b"usage: exabgpd encode LOCAL_AS PEER_AS LOCAL_IP\n\
-\x20          reads announce and withdraw lines, writes replies and UPDATE messages\n\
+const HELP: &[u8] = b"usage: exabgpd encode CONFIG\n\
+\x20      exabgpd encode LOCAL_AS PEER_AS LOCAL_IP\n\
+\x20          reads a helper's lines, writes replies, and UPDATE messages at their end\n\
 \x20      exabgpd check CONFIG\n\
 \x20          reads a configuration file, writes ok or says what its first fault is\n\
 \x20      exabgpd play CONFIG\n\
 \x20          reads a script of events, writes what each is answered\n\
+\x20      exabgpd load COUNT\n\
+\x20          announces so many routes, withdraws each second one, writes nine counts\n\
 \x20      exabgpd parse\n\
 \x20          reads command lines, writes for each whether it reads or where its first fault is\n\
 \x20      exabgpd decode CAP ..\n\
@@ -63,14 +69,19 @@ const HELP: &[u8] = b"usage: exabgpd encode LOCAL_AS PEER_AS LOCAL_IP\n\
 
 /// Runs the text command that the words spell.
 ///
-/// `encode LOCAL_AS PEER_AS LOCAL_IP` reads its input to the end as command lines. It writes one line `done`,
-/// `error` or `error memory` for each line, in order, and then the UPDATE messages that leave at the neighbour what
-/// the lines say, each as a line `update 0 more HEX`; the last is the End-of-RIB marker, as `update 0 last HEX`.
+/// `encode CONFIG` reads the file at this path as `check` does, and then its input to the end as the lines of the first
+/// process. It opens the daemon's engine by the configuration, and writes what each line is answered before it reads
+/// on. At the end it writes for each neighbour the UPDATE messages that leave at it what the lines say, each as a line
+/// `update N more HEX`, and the last End-of-RIB marker as `update N last HEX`; or `reset CODE SUBCODE`, where a line
+/// ended the session. A configuration without a process is refused.
+/// `encode LOCAL_AS PEER_AS LOCAL_IP` does so over one neighbour, 127.0.0.1, in IPv4 alone, and one process.
 /// `check CONFIG` reads the file at this path as a configuration for 16 processes and 64 neighbours, and no input. It
 /// writes the line `ok`, or ends with `ConfigRefused` and the file's first fault.
 /// `play CONFIG` reads the file at this path as `check` does, and then its input to the end as a script of events. It
 /// opens the daemon's engine by the configuration, enters the event of each line, and writes what that is answered
 /// before it reads on. `ScriptRefused` says the first line that is in no production.
+/// `load COUNT` reads no input. It opens the engine with one neighbour and one process, enters lines that announce so
+/// many routes and then withdraw each second one, and writes nine counts of what came of it.
 /// `parse` reads its input to the end as command lines. It writes for each line, in order, one line: `ok`, its first
 /// fault as `error token PLACE`, `error many PLACE LIMIT` or `error long`, or `error memory`.
 /// `decode CAP ..` reads its input to the end as UPDATE messages in hexadecimal, one a line, of a session with these
@@ -116,6 +127,19 @@ pub fn exabgp_text<F: Files, S: Source, K: Sink>(
         (F.faults files.old) (F.faults files.new) result }
     ensures script { (line : ℕ) → result ≡ Status.ScriptRefused line
         → PlayScript (map (λ w. w.now) words.now) }
+
+    // What encoding a helper's lines leaves.
+    ensures encodes { (path : List ℕ) → map (λ w. w.now) words.now ≡ codes "encode" ∷ path ∷ []
+        → EncodesFile (F.content files.old) path
+        (source_seen S.given S.left S.ended S.faults input.old)
+        (source_seen S.given S.left S.ended S.faults input.new)
+        (sink_seen K.taken K.faults output.old) (sink_seen K.taken K.faults output.new)
+        (F.faults files.old) (F.faults files.new) result }
+    ensures encodes_plain { (ends : Session) → IsEncode (map (λ w. w.now) words.now) ends
+        → Encodes (plain_of ends)
+        (source_seen S.given S.left S.ended S.faults input.old)
+        (source_seen S.given S.left S.ended S.faults input.new)
+        (sink_seen K.taken K.faults output.old) (sink_seen K.taken K.faults output.new) result }
 
     // What was opened is given back. Where the words name no file, none is opened.
     ensures content { F.content files.new ≡ F.content files.old }
@@ -187,11 +211,17 @@ fn run<F: Files, S: Source, K: Sink>(
     input: &mut S,
     output: &mut K,
 ) -> Status
+    requires bounded { IsBounded command }
     ensures answered { Answered (F.content files.old) command.entry
         (source_seen S.given S.left S.ended S.faults input.old)
         (source_seen S.given S.left S.ended S.faults input.new)
         (sink_seen K.taken K.faults output.old) (sink_seen K.taken K.faults output.new) result }
     ensures plays { PlaysIts (F.content files.old) command.entry
+        (source_seen S.given S.left S.ended S.faults input.old)
+        (source_seen S.given S.left S.ended S.faults input.new)
+        (sink_seen K.taken K.faults output.old) (sink_seen K.taken K.faults output.new)
+        (F.faults files.old) (F.faults files.new) result }
+    ensures encodes { EncodesIts (F.content files.old) command.entry
         (source_seen S.given S.left S.ended S.faults input.old)
         (source_seen S.given S.left S.ended S.faults input.new)
         (sink_seen K.taken K.faults output.old) (sink_seen K.taken K.faults output.new)
@@ -209,9 +239,11 @@ fn run<F: Files, S: Source, K: Sink>(
         → F.faults files.new ≡ F.faults files.old }
 {
     match command {
-        TextCommand::Encode(side) => encode(alloc, &side, input, output),
+        TextCommand::Encode(path) => encode_over(alloc, path, files, input, output),
+        TextCommand::EncodePlain(ends) => encode_plain(alloc, ends, input, output),
         TextCommand::Check(path) => check(alloc, path, files, output),
         TextCommand::Play(path) => play_over(alloc, path, files, input, output),
+        TextCommand::Load(count) => load_plain(alloc, count, output),
         TextCommand::Parse => parse(alloc, input, output),
         TextCommand::Decode(caps) => decode(alloc, &caps, input, output),
         TextCommand::Help => write_text(output, HELP),
@@ -237,25 +269,6 @@ fn check<F: Files, K: Sink>(alloc: Global, path: &str, files: &mut F, output: &m
         Ok(_) => write_text(output, CHECKED),
         Err(status) => status,
     }
-}
-
-// Reads lines to the end of the input, and writes what answers them.
-fn encode<S: Source, K: Sink>(alloc: Global, side: &Side, input: &mut S, output: &mut K) -> Status
-    ensures { (content : Option (List ℕ → List ℕ)) → Answered content (Encode side.now)
-        (source_seen S.given S.left S.ended S.faults input.old)
-        (source_seen S.given S.left S.ended S.faults input.new)
-        (sink_seen K.taken K.faults output.old) (sink_seen K.taken K.faults output.new) result }
-{
-    // For the proof: by the law some output belongs to what was read, also where none is made.
-    written_is_spelled();
-    let bytes = match read_input(alloc, input) {
-        Ok(bytes) => bytes,
-        Err(status) => return status,
-    };
-    let Ok(text) = encode_all(alloc, side, &bytes) else {
-        return Status::NoMemory;
-    };
-    write_text(output, &text)
 }
 
 // Reads lines to the end of the input, and writes how each reads.

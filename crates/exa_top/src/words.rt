@@ -1,23 +1,37 @@
 //! The words of a command.
-ghost use Rattle.std.specs.Prelude.{◌≡◌, [], ◌∷◌, codes, map, IfSome, IfNone};
-ghost use Rattle.route_values.specs.declared.settings.Side.{Side as Ends};
+ghost use Rattle.std.specs.Prelude.{ℕ, ◌≡◌, ◌↔◌, [], ◌∷◌, codes, map, IfSome, IfNone, IsTrue};
+ghost use Rattle.exa_top.specs.Loaded.{IsLoadWords};
 ghost use Rattle.exa_top.specs.Words.{IsCommand, IsEncode};
+ghost use Rattle.exa_top.specs.declared.words.Ends.{Ends as Session};
 ghost use Rattle.exa_top.specs.declared.words.TextCommand.{TextCommand as Spelled};
 
 use crate::caps::caps_of;
-use crate::command::is;
-use route_values::{Addr, Caps, Side};
-use text_forms::{asn, ipv4};
+use route_values::Caps;
+use script_play::MAX_LOAD;
+use text_forms::{asn, ipv4, number};
+
+/// The ends of the session of a command that names no file.
+#[derive(Clone, Copy, Debug, PartialEq, Eq)]
+pub struct Ends {
+    pub local_as: u32,
+    pub peer_as: u32,
+    /// The local address, an IPv4 address as a number.
+    pub local: u32,
+}
 
 /// A text command.
 #[derive(Clone, Copy, Debug, PartialEq, Eq)]
 pub enum TextCommand<'a> {
+    /// `encode CONFIG`: the path of a file.
+    Encode(&'a str),
     /// `encode LOCAL_AS PEER_AS LOCAL_IP`: a session with these ends.
-    Encode(Side),
+    EncodePlain(Ends),
     /// `check CONFIG`: the path of a file.
     Check(&'a str),
     /// `play CONFIG`: the path of a file.
     Play(&'a str),
+    /// `load COUNT`: how many routes.
+    Load(u32),
     /// `parse`
     Parse,
     /// `decode CAP ..`: messages of a session with these capabilities.
@@ -44,6 +58,9 @@ pub fn text_command<'a>(words: &[&'a str]) -> Option<TextCommand<'a>>
     if is(name.as_bytes(), b"play") {
         return play_of(operands);
     }
+    if is(name.as_bytes(), b"load") {
+        return load_of(operands);
+    }
     if is(name.as_bytes(), b"decode") {
         return decode_of(operands);
     }
@@ -68,8 +85,12 @@ fn encode_of<'a>(operands: &[&'a str]) -> Option<TextCommand<'a>>
     ensures none { IfNone result ((spelled : Spelled)
         → IsCommand (codes "encode" ∷ map (λ w. w.now) operands.now) spelled → ⊥) }
 {
-    match side_of(operands) {
-        Some(side) => Some(TextCommand::Encode(side)),
+    let (path, others) = operands.split_first()?;
+    if others.is_empty() {
+        return Some(TextCommand::Encode(path));
+    }
+    match ends_of(operands) {
+        Some(ends) => Some(TextCommand::EncodePlain(ends)),
         None => None,
     }
 }
@@ -100,6 +121,44 @@ fn play_of<'a>(operands: &[&'a str]) -> Option<TextCommand<'a>>
     Some(TextCommand::Play(path))
 }
 
+fn load_of<'a>(operands: &[&'a str]) -> Option<TextCommand<'a>>
+    ensures found { IfSome result
+        (λ spelled. IsCommand (codes "load" ∷ map (λ w. w.now) operands.now) spelled) }
+    ensures none { IfNone result ((spelled : Spelled)
+        → IsCommand (codes "load" ∷ map (λ w. w.now) operands.now) spelled → ⊥) }
+{
+    match count_of(operands) {
+        Some(count) => Some(TextCommand::Load(count)),
+        None => None,
+    }
+}
+
+// `COUNT`
+fn count_of(operands: &[&str]) -> Option<u32>
+    ensures found { IfSome result
+        (λ count. IsLoadWords (codes "load" ∷ map (λ w. w.now) operands.now) count) }
+    ensures none { IfNone result ((count : ℕ)
+        → IsLoadWords (codes "load" ∷ map (λ w. w.now) operands.now) count → ⊥) }
+{
+    let (text, others) = operands.split_first()?;
+    if !others.is_empty() {
+        return None;
+    }
+    count_from(text)
+}
+
+fn count_from(text: &str) -> Option<u32>
+    ensures found { IfSome result (λ count. IsLoadWords (codes "load" ∷ text.now ∷ []) count) }
+    ensures none { IfNone result ((count : ℕ)
+        → IsLoadWords (codes "load" ∷ text.now ∷ []) count → ⊥) }
+{
+    let count = number(text.as_bytes())?;
+    if count == 0 || count > MAX_LOAD {
+        return None;
+    }
+    Some(count)
+}
+
 fn decode_of<'a>(operands: &[&'a str]) -> Option<TextCommand<'a>>
     ensures found { IfSome result
         (λ spelled. IsCommand (codes "decode" ∷ map (λ w. w.now) operands.now) spelled) }
@@ -113,11 +172,11 @@ fn decode_of<'a>(operands: &[&'a str]) -> Option<TextCommand<'a>>
 }
 
 // `LOCAL_AS PEER_AS LOCAL_IP`
-fn side_of(operands: &[&str]) -> Option<Side>
+fn ends_of(operands: &[&str]) -> Option<Ends>
     ensures found { IfSome result
-        (λ side. IsEncode (codes "encode" ∷ map (λ w. w.now) operands.now) side) }
+        (λ ends. IsEncode (codes "encode" ∷ map (λ w. w.now) operands.now) ends) }
     ensures none { IfNone result
-        ((side : Ends) → IsEncode (codes "encode" ∷ map (λ w. w.now) operands.now) side → ⊥) }
+        ((ends : Session) → IsEncode (codes "encode" ∷ map (λ w. w.now) operands.now) ends → ⊥) }
 {
     let (local_as, others) = operands.split_first()?;
     let (peer_as, others) = others.split_first()?;
@@ -125,21 +184,28 @@ fn side_of(operands: &[&str]) -> Option<Side>
     if !others.is_empty() {
         return None;
     }
-    side_from(local_as, peer_as, local)
+    ends_from(local_as, peer_as, local)
 }
 
-fn side_from(local_as: &str, peer_as: &str, local: &str) -> Option<Side>
+fn ends_from(local_as: &str, peer_as: &str, local: &str) -> Option<Ends>
     ensures found { IfSome result
-        (λ side. IsEncode (codes "encode" ∷ local_as.now ∷ peer_as.now ∷ local.now ∷ []) side) }
-    ensures none { IfNone result ((side : Ends)
-        → IsEncode (codes "encode" ∷ local_as.now ∷ peer_as.now ∷ local.now ∷ []) side → ⊥) }
+        (λ ends. IsEncode (codes "encode" ∷ local_as.now ∷ peer_as.now ∷ local.now ∷ []) ends) }
+    ensures none { IfNone result ((ends : Session)
+        → IsEncode (codes "encode" ∷ local_as.now ∷ peer_as.now ∷ local.now ∷ []) ends → ⊥) }
 {
     let local_as = asn(local_as.as_bytes())?;
     let peer_as = asn(peer_as.as_bytes())?;
     let local = ipv4(local.as_bytes())?;
-    Some(Side {
-        local: Addr::V4(local),
+    Some(Ends {
         local_as,
         peer_as,
+        local,
     })
+}
+
+/// Whether a word is this text.
+pub fn is(word: &[u8], text: &[u8]) -> bool
+    ensures { IsTrue result ↔ (word.now ≡ text.now) }
+{
+    word == text
 }

@@ -13,8 +13,12 @@ use std::os::fd::AsFd;
 use std::process::{ChildStdin, ChildStdout};
 use wires::{PlainWriter, Watch, Woken};
 
-// How many milliseconds pass at most before a child's end is noticed, where its pipe stays open.
+// How many milliseconds pass at most before the end of a child that has just written is noticed, where its pipe stays
+// open. Each further look comes after twice the time of the last, so that a child that writes nothing costs little.
 const LOOK: u32 = 100;
+
+// How many milliseconds pass at most between two looks.
+const LONGEST: u32 = 1_600;
 
 // After so many looks without room, a minute, the child is taken for one that never reads.
 const LOOKS: u32 = 600;
@@ -114,13 +118,15 @@ fn read_from_child<R: io::Read + AsFd>(
         into.new }
 {
     let mut over = false;
+    let mut look = LOOK;
     'looks: for _ in 0..u64::MAX {
         match reader.read(into) {
             Err(error) if is_passing(&error) => {
                 if over {
                     return Ok(0);
                 }
-                over = waits_for_the_last(reader, tie, watch);
+                over = waits_for_the_last(reader, tie, watch, look);
+                look = look.saturating_mul(2).min(LONGEST);
             }
             answer => return answer,
         }
@@ -129,12 +135,12 @@ fn read_from_child<R: io::Read + AsFd>(
 }
 
 // Waits at the pipe unless the child is over, and says whether only what was written before is to
-// come. The system is asked only where a wait has ended with nothing.
-fn waits_for_the_last<R: AsFd>(reader: &R, tie: Tie<'_>, watch: &Watch) -> bool {
+// come. The system is asked only where a wait of so many milliseconds has ended with nothing.
+fn waits_for_the_last<R: AsFd>(reader: &R, tie: Tie<'_>, watch: &Watch, look: u32) -> bool {
     if tie.is_over() || tie.reading().is_closed() {
         return true;
     }
-    tie.reading().wait_to_read(reader, LOOK) == Woken::Quiet && watch.has_ended()
+    tie.reading().wait_to_read(reader, look) == Woken::Quiet && watch.has_ended()
 }
 
 /// What a child reads, written through a pipe whose calls don't wait. `write` waits for room for at

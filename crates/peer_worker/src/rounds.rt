@@ -17,7 +17,8 @@ use std::sync::Wait;
 // How long it is rested before the neighbour is dialled again, in milliseconds.
 const BACK_OFF: u64 = 5_000;
 
-// How long it is waited where the slot has no neighbour and nobody rings, in milliseconds.
+// How long it is rested where the slot has no neighbour, in milliseconds. No ring ends it, since lines that helpers say
+// give such a slot nothing to do.
 const ABSENT: u64 = 1_000;
 
 /// Talks to the neighbour of a slot, link after link, until the daemon ends.
@@ -47,7 +48,7 @@ pub fn talk<R: Wait, D: Dialer, E: Ear, C: Clock, P: Pause>(
                 );
                 rest_unless(pause, stopped);
             }
-            Peer::Absent => pause.wait(ABSENT),
+            Peer::Absent => pause.rest(ABSENT),
             Peer::Stopping => return,
         }
     }

@@ -57,7 +57,7 @@ const STEP: u32 = 256;
 // How many bytes a line has at most.
 const LINE_ROOM: usize = 64;
 
-/// EntersAll a large input into a newly opened book, and writes what was counted of it as nine lines.
+/// Enters a large input into a newly opened book, and writes what was counted of it as nine lines.
 ///
 /// A helper is started, the neighbour's session comes up, so many routes are announced, a line each, and all messages
 /// are cut; then each second one is withdrawn, from the first on, and all messages are cut again. The book is to be
@@ -88,7 +88,7 @@ fn tell<K: Sink>(text: &[u8], output: &mut K) -> Status
     }
 }
 
-// EntersAll all events, and answers the text of the counts.
+// Enters all events, and answers the text of the counts.
 fn load_all(alloc: Global, book: &mut Book, count: u32) -> Result<Vec<u8>, NoMemory>
     requires { count ≤ max_routes }
     ensures { (cfg : Sections) → Stands cfg [] book.old → MatchResult result
@@ -115,7 +115,7 @@ fn caps() -> Caps
     Caps::none().with(Family::Ipv4, false)
 }
 
-// EntersAll what comes behind that.
+// Enters what comes behind that.
 fn enter_all(alloc: Global, book: &mut Book, tally: &mut Tally, count: u32) -> Result<(), NoMemory>
     requires { count ≤ max_routes }
     ensures { (cfg : Sections) (H : History) → IsCounted cfg H book.old tally.old
@@ -226,7 +226,7 @@ fn put(piece: &[u8], line: &mut ArrayVec<u8, LINE_ROOM>)
     let _ = line.try_extend_from_slice(piece);
 }
 
-// EntersAll a line of the helper, takes its reply, and counts it.
+// Enters a line of the helper, takes its reply, and counts it.
 fn enter(alloc: Global, book: &mut Book, tally: &mut Tally, line: &[u8]) -> Result<(), NoMemory>
     ensures { (cfg : Sections) (H : History) → IsCounted cfg H book.old tally.old
         → EntersAll (IsReplied line.now) cfg H book.new tally.new result }

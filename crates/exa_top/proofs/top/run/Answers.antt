@@ -1,25 +1,35 @@
 use Rattle.std.proofs.Common.{refl}
-use Rattle.exa_top.specs.declared.words.TextCommand.TheVariants.{Encode, Parse, Decode, Help, Version}
+use Rattle.outside.specs.Seen.{source_seen}
+use Rattle.exa_top.specs.declared.words.TextCommand.TheVariants.{Load, Parse, Decode, Help, Version}
 use Rattle.exa_top.proofs.AnsweredLemmas.{read_none, text_written}
 use Rattle.exa_top.proofs.CheckedLemmas.{ends_later}
+use Rattle.exa_top.proofs.EncodedLemmas.{encodes_later, encodes_read, file_answered, plain_answered}
 use Rattle.exa_top.proofs.PlayedLemmas.{played_answered}
 use Rattle.exa_top.proofs.top.run.Goals as goal
 
 pub returns-in-Encode-clause-answered : goal.returns-in-Encode-clause-answered
-returns-in-Encode-clause-answered g c = rw c.in-Encode.is (c.encode.ensures _)
+returns-in-Encode-clause-answered g c =
+    rw c.in-Encode.is (file_answered _ c.in-Encode.path _ _ _ _ _ _ _ c.encode_over.ensures.encodes)
 
-pub returns-in-Encode-clause-at_once : goal.returns-in-Encode-clause-at_once
-returns-in-Encode-clause-at_once g c at_once =
-    absurd (ends_later (g.F.Files.content c.args.files.now) (Encode c.in-Encode.side) _ _ _ _ _ (c.encode.ensures _)
-    (λ names. names) at_once)
+pub returns-in-Encode-clause-encodes : goal.returns-in-Encode-clause-encodes
+returns-in-Encode-clause-encodes g c = rw c.in-Encode.is c.encode_over.ensures.encodes
 
-pub returns-in-Encode-clause-unread : goal.returns-in-Encode-clause-unread
-returns-in-Encode-clause-unread g c is =
-    absurd ((c.encode.ensures (g.F.Files.content c.args.files.now)).unread is)
+pub returns-in-EncodePlain-clause-answered : goal.returns-in-EncodePlain-clause-answered
+returns-in-EncodePlain-clause-answered g c =
+    rw c.in-EncodePlain.is (plain_answered _ c.in-EncodePlain.ends _ _ _ _ _ c.encode_plain.ensures)
 
-pub returns-in-Encode-clause-config : goal.returns-in-Encode-clause-config
-returns-in-Encode-clause-config g c is =
-    absurd ((c.encode.ensures (g.F.Files.content c.args.files.now)).unread is)
+pub returns-in-EncodePlain-clause-encodes : goal.returns-in-EncodePlain-clause-encodes
+returns-in-EncodePlain-clause-encodes g c = rw c.in-EncodePlain.is c.encode_plain.ensures
+
+pub returns-in-EncodePlain-clause-at_once : goal.returns-in-EncodePlain-clause-at_once
+returns-in-EncodePlain-clause-at_once g c at_once =
+    absurd (encodes_later _ _ _ _ _ _ c.encode_plain.ensures at_once)
+
+pub returns-in-EncodePlain-clause-unread : goal.returns-in-EncodePlain-clause-unread
+returns-in-EncodePlain-clause-unread g c is = absurd (encodes_read _ _ _ _ _ _ c.encode_plain.ensures is)
+
+pub returns-in-EncodePlain-clause-config : goal.returns-in-EncodePlain-clause-config
+returns-in-EncodePlain-clause-config g c is = absurd (encodes_read _ _ _ _ _ _ c.encode_plain.ensures is)
 
 pub returns-in-Check-clause-answered : goal.returns-in-Check-clause-answered
 returns-in-Check-clause-answered g c = rw c.in-Check.is (c.check.ensures.answered _)
@@ -30,6 +40,25 @@ returns-in-Play-clause-answered g c =
 
 pub returns-in-Play-clause-plays : goal.returns-in-Play-clause-plays
 returns-in-Play-clause-plays g c = rw c.in-Play.is c.play_over.ensures.plays
+
+pub returns-in-Load-clause-answered : goal.returns-in-Load-clause-answered
+returns-in-Load-clause-answered g c = rw c.in-Load.is (c.load_plain.ensures _ _)
+
+pub returns-in-Load-clause-at_once : goal.returns-in-Load-clause-at_once
+returns-in-Load-clause-at_once g c at_once =
+    absurd (ends_later (g.F.Files.content c.args.files.now) (Load c.in-Load.count) _ _ _ _ _
+    (c.load_plain.ensures _ (source_seen g.S.Source.given g.S.Source.left g.S.Source.ended g.S.Source.faults
+    c.args.input.now)) (λ names. names) at_once)
+
+pub returns-in-Load-clause-unread : goal.returns-in-Load-clause-unread
+returns-in-Load-clause-unread g c is =
+    absurd ((c.load_plain.ensures (g.F.Files.content c.args.files.now) (source_seen g.S.Source.given g.S.Source.left
+    g.S.Source.ended g.S.Source.faults c.args.input.now)).unread is)
+
+pub returns-in-Load-clause-config : goal.returns-in-Load-clause-config
+returns-in-Load-clause-config g c is =
+    absurd ((c.load_plain.ensures (g.F.Files.content c.args.files.now) (source_seen g.S.Source.given g.S.Source.left
+    g.S.Source.ended g.S.Source.faults c.args.input.now)).unread is)
 
 pub returns-in-Parse-clause-answered : goal.returns-in-Parse-clause-answered
 returns-in-Parse-clause-answered g c = rw c.in-Parse.is (c.parse.ensures _)
