@@ -7,7 +7,6 @@
 
 mod marking;
 mod place;
-mod task;
 mod worker;
 mod working;
 

@@ -11,7 +11,6 @@ ghost use Rattle.peer_worker.specs.Rounds.{told};
 
 use crate::marking::{Marked, mark_all};
 use crate::place::Place;
-use crate::task::Task;
 use crate::worker::Worker;
 use book_gate::GateName;
 use outside::{Clock, CrewPlan, Dialer, Ear, Files, Pause, Spawner};
@@ -27,39 +26,67 @@ pub struct Worked<'g, F, S: Spawner, D, E, C, P, N: GateName> {
     pub all: bool,
 }
 
-impl<'g, F: Files, S: Spawner, D: Dialer, E: Ear, C: Clock, P: Pause, N: GateName> Task for Place<
-    Worker<'g, F, S, D, E, C, P, N>,
-> {
-    ghost became = { Ends F.content F.faults F.lent
+// Does one job, or calls it off.
+fn end<R: Wait, F: Files, S: Spawner, D: Dialer, E: Ear, C: Clock, P: Pause, N: GateName>(
+    rt: &R,
+    place: &mut Place<Worker<'_, F, S, D, E, C, P, N>>,
+)
+    ensures { Ends F.content F.faults F.lent
         (λ spawner. told_by (S.children spawner) (S.asked spawner) (S.failed spawner))
-        (λ dialer. told (D.links dialer) (D.asked dialer) (D.failed dialer)) C.moments };
-
-    // Does the job, or calls it off.
-    fn end<R: Wait>(&mut self, rt: &R) {
-        if self.refused {
-            self.worker.call_off(rt);
-        } else {
-            self.worker.run(rt);
-        }
+        (λ dialer. told (D.links dialer) (D.asked dialer) (D.failed dialer))
+        C.moments place.old place.new }
+{
+    if place.refused {
+        place.worker.call_off(rt);
+    } else {
+        place.worker.run(rt);
     }
 }
 
-// Does each task, all beside each other.
-fn end_each<R: Threads + Wait + Sync, T: Task + Send>(rt: &R, tasks: &mut [T])
-    ensures { EachBecame T.became tasks.old tasks.new }
+// Does each job, or calls it off, all beside each other.
+fn end_each<
+    R: Threads + Wait + Sync,
+    F: Files + Send,
+    S: Spawner + Send,
+    D: Dialer + Send,
+    E: Ear + Send,
+    C: Clock,
+    P: Pause,
+    N: GateName + Send,
+>(rt: &R, places: &mut [Place<Worker<'_, F, S, D, E, C, P, N>>])
+    ensures { EachBecame (Ends F.content F.faults F.lent
+        (λ spawner. told_by (S.children spawner) (S.asked spawner) (S.failed spawner))
+        (λ dialer. told (D.links dialer) (D.asked dialer) (D.failed dialer))
+        C.moments) places.old places.new }
 {
-    let count = tasks.len();
+    let count = places.len();
     if count > 0 {
-        thread::for_each_mut(rt, tasks, count, &|_, task| task.end(rt));
+        thread::for_each_mut(rt, places, count, &|_, place| end(rt, place));
     }
 }
 
-// Does each task of a list, all beside each other.
-fn end_all<R: Threads + Wait + Sync, T: Task + Send>(rt: &R, mut tasks: Vec<T>) -> Vec<T>
-    ensures { AllZip T.became tasks.items result.items }
+// Does each job of a list, or calls it off, all beside each other.
+fn end_all<
+    'g,
+    R: Threads + Wait + Sync,
+    F: Files + Send,
+    S: Spawner + Send,
+    D: Dialer + Send,
+    E: Ear + Send,
+    C: Clock,
+    P: Pause,
+    N: GateName + Send,
+>(
+    rt: &R,
+    mut places: Vec<Place<Worker<'g, F, S, D, E, C, P, N>>>,
+) -> Vec<Place<Worker<'g, F, S, D, E, C, P, N>>>
+    ensures { AllZip (Ends F.content F.faults F.lent
+        (λ spawner. told_by (S.children spawner) (S.asked spawner) (S.failed spawner))
+        (λ dialer. told (D.links dialer) (D.asked dialer) (D.failed dialer))
+        C.moments) places.entry.items result.items }
 {
-    end_each(rt, &mut tasks);
-    tasks
+    end_each(rt, &mut places);
+    places
 }
 
 /// Does each job, all beside each other, and returns once all have ended.
