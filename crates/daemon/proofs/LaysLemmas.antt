@@ -146,42 +146,42 @@ module _ {F S D E C : Type 0} (clock : C) (old mid new : Stock S D E) (before be
             let g1 : Gains mid between base = first.moves.carries base gains in
             let g2 : Gains new after base = second.moves.carries base g1 in
             let t0 : TalkersLaid files path slots (length old.peers.items) (dialers before) (ears before) before
-                (passes before) =
-                subst (λ (jobs : List (Job F S D E C)). TalkersLaid files path slots (length old.peers.items)
-                (dialers jobs) (ears jobs) jobs (passes jobs)) (sym only) (pass, refl, refl) in
+            (passes before) =
+            subst (λ (jobs : List (Job F S D E C)). TalkersLaid files path slots (length old.peers.items)
+            (dialers jobs) (ears jobs) jobs (passes jobs)) (sym only) (pass, refl, refl) in
             let t1 : TalkersLaid files path slots (length mid.peers.items) (dialers between) (ears between) between
-                (passes between) = first.laid files path slots t0 in
+            (passes between) = first.laid files path slots t0 in
             let t2 : TalkersLaid files path slots 0 (dialers between) (ears between) between (passes between) =
-                subst (λ (n : ℕ). TalkersLaid files path slots n (dialers between) (ears between) between
-                (passes between)) (ap length none) t1 in
+            subst (λ (n : ℕ). TalkersLaid files path slots n (dialers between) (ears between) between
+            (passes between)) (ap length none) t1 in
             let peers : base.peers.items ≡ dialers between = all_there _ _ _ none g1.of_peers in
             let heard : base.ears.items ≡ ears between =
-                all_there _ _ _ (sym second.same_ears ∙ used.no_ears) g1.of_ears in
+            all_there _ _ _ (sym second.same_ears ∙ used.no_ears) g1.of_ears in
             let t3 : TalkersLaid files path slots 0 base.peers.items (ears between) between (passes between) =
-                subst (λ (given : List D). TalkersLaid files path slots 0 given (ears between) between (passes between))
-                (sym peers) t2 in
+            subst (λ (given : List D). TalkersLaid files path slots 0 given (ears between) between (passes between))
+            (sym peers) t2 in
             let t4 : TalkersLaid files path slots 0 base.peers.items base.ears.items between (passes between) =
-                subst (λ (given : List E). TalkersLaid files path slots 0 base.peers.items given between
-                (passes between)) (sym heard) t3 in
+            subst (λ (given : List E). TalkersLaid files path slots 0 base.peers.items given between
+            (passes between)) (sym heard) t3 in
             let bare : spawners between ≡ [] =
-                first.no_spawners ∙ ap (λ (jobs : List (Job F S D E C)). spawners jobs) only in
+            first.no_spawners ∙ ap (λ (jobs : List (Job F S D E C)). spawners jobs) only in
             let h1 : HelpersLaid files path slots clock base.peers.items base.ears.items (length mid.helpers.items)
-                (spawners between) between (passes between) =
-                subst (λ (given : List S). HelpersLaid files path slots clock base.peers.items base.ears.items
-                (length mid.helpers.items) given between (passes between)) (sym bare) t4 in
+            (spawners between) between (passes between) =
+            subst (λ (given : List S). HelpersLaid files path slots clock base.peers.items base.ears.items
+            (length mid.helpers.items) given between (passes between)) (sym bare) t4 in
             let h2 : HelpersLaid files path slots clock base.peers.items base.ears.items (length new.helpers.items)
-                (spawners after) after (passes after) =
-                second.laid files path slots base.peers.items base.ears.items h1 in
+            (spawners after) after (passes after) =
+            second.laid files path slots base.peers.items base.ears.items h1 in
             let h3 : HelpersLaid files path slots clock base.peers.items base.ears.items 0 (spawners after) after
-                (passes after) =
-                subst (λ (h : ℕ). HelpersLaid files path slots clock base.peers.items base.ears.items h
-                (spawners after) after (passes after)) (ap length empty) h2 in
+            (passes after) =
+            subst (λ (h : ℕ). HelpersLaid files path slots clock base.peers.items base.ears.items h
+            (spawners after) after (passes after)) (ap length empty) h2 in
             let helpers : base.helpers.items ≡ spawners after = all_there _ _ _ empty g2.of_helpers in
             let given : base.passes.items ≡ passes after = all_there _ _ _ used.no_passes g2.of_passes in
             let h4 : HelpersLaid files path slots clock base.peers.items base.ears.items 0 base.helpers.items after
-                (passes after) =
-                subst (λ (all : List S). HelpersLaid files path slots clock base.peers.items base.ears.items 0 all after
-                (passes after)) (sym helpers) h3 in
+            (passes after) =
+            subst (λ (all : List S). HelpersLaid files path slots clock base.peers.items base.ears.items 0 all after
+            (passes after)) (sym helpers) h3 in
             subst (λ (all : List (Known Sections Entry)). HelpersLaid files path slots clock base.peers.items
             base.ears.items 0 base.helpers.items after all) (sym given) h4;
       }

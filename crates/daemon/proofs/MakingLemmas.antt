@@ -62,7 +62,7 @@ pub fresh_one : (gate : TableId) (old new more : List (Known Sections Entry)) (p
     → old ≡ new ++ pass ∷ more → AreFresh gate old → IsFresh gate (length new) pass
 fresh_one gate old new more pass is fresh =
     let all : AreFresh gate (new ++ pass ∷ more) =
-        subst (λ (all : List (Known Sections Entry)). AreFresh gate all) is fresh in
+    subst (λ (all : List (Known Sections Entry)). AreFresh gate all) is fresh in
     let e : length new < length (new ++ pass ∷ more) = omega (arith, length-append new (pass ∷ more)) in
     subst (λ (one : Known Sections Entry). IsFresh gate (length new) one)
     (get_or_at new pass more pass (length new) refl) (all (length new) pass e)
@@ -186,10 +186,10 @@ module _ {F S D E C : Type 0} (old new : Stock S D E) (before : List (Job F S D 
         two_passes_each = omega (arith, p, q);
         laid = λ files path slots peers heard laid. (
           ap (λ (k : ℕ). Reads k spawner made reading) is
-          ∙ ap (λ (now : C). Reads (length new.helpers.items) spawner now reading) by,
+              ∙ ap (λ (now : C). Reads (length new.helpers.items) spawner now reading) by,
           ap (λ (k : ℕ). Replies k last writing) (same ∙ is)
-          ∙ ap (λ (k : ℕ). Replies (length new.helpers.items) k writing) none,
+              ∙ ap (λ (k : ℕ). Replies (length new.helpers.items) k writing) none,
           subst (λ (k : ℕ). HelpersLaid files path slots clock peers heard k (spawners before) before (passes before))
-          p laid,
+              p laid,
         );
       }

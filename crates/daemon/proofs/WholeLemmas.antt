@@ -32,7 +32,7 @@ module _ {F S D E C : Type 0} (files : F) (path : List ℕ) (slots : Slots) (bas
       let p : length base.peers.items ≡ length mid.peers.items = ap length kept.gave.same_peers in
       let q : length base.passes.items ≡ suc (length mid.passes.items) = one_longer _ _ _ kept.gave.one_pass in
       let all : length base.passes.items
-          ≡ length base.helpers.items + length base.helpers.items + length base.peers.items + 1 = full.a_pass_each in
+      ≡ length base.helpers.items + length base.helpers.items + length base.peers.items + 1 = full.a_pass_each in
       omega (arith, h, p, q, all)
 
   pub left_fresh : (gate : TableId) → IsFull gate base → AreFresh gate mid.passes.items

@@ -1,6 +1,16 @@
 //! Taking the jobs apart.
 ghost use Rattle.std.specs.Prelude.{
-    ◌≡◌, ◌<◌, ◌≤◌, ◌+◌, [], ◌∷◌, IfNone, IfSome, length, reverse, vec_capacity
+  ◌≡◌,
+  ◌<◌,
+  ◌≤◌,
+  ◌+◌,
+  [],
+  ◌∷◌,
+  IfNone,
+  IfSome,
+  length,
+  reverse,
+  vec_capacity,
 };
 ghost use Rattle.crew.specs.Jobs.Job.{Replies};
 ghost use Rattle.crew.specs.Views.{job_of, jobs_of};
@@ -156,10 +166,7 @@ pub fn take_all_apart<
     C: Clock + Drop,
     P: Pause + Drop,
     N: GateName,
->(
-    mut places: Vec<Place<Worker<'g, F, S, D, E, C, P, N>>>,
-    stock: &mut Stock<S, D, E>,
-) -> F
+>(mut places: Vec<Place<Worker<'g, F, S, D, E, C, P, N>>>, stock: &mut Stock<S, D, E>) -> F
     requires whole { AreWhole (jobs_of places.items) }
     requires room { HasRoom stock.old (jobs_of places.items) }
     ensures files { files_of (jobs_of places.entry.items) ≡ result ∷ [] }

@@ -1,12 +1,30 @@
 //! Making the jobs, from the last to the first.
 ghost use Rattle.std.specs.Prelude.{
-    ◌≡◌, ◌<◌, ◌≤◌, ◌+◌, IfErr, IfOk, OnErr, OnOk, length, reverse, vec_capacity
+  ◌≡◌,
+  ◌<◌,
+  ◌≤◌,
+  ◌+◌,
+  IfErr,
+  IfOk,
+  OnErr,
+  OnOk,
+  length,
+  reverse,
+  vec_capacity,
 };
 ghost use Rattle.config_model.specs.Limits.{max_helpers, max_peers};
 ghost use Rattle.crew.specs.Views.{jobs_of};
 ghost use Rattle.daemon.specs.Laid.{AreFresh, HasRoom, HaveSame, IsFull, IsLaid, IsUsedUp};
 ghost use Rattle.daemon.specs.Making.{
-    IsKept, Lays, Moves, MovesHelpers, MovesPeers, PairMore, PassMore, SameRoom, TalkerMore
+  IsKept,
+  Lays,
+  Moves,
+  MovesHelpers,
+  MovesPeers,
+  PairMore,
+  PassMore,
+  SameRoom,
+  TalkerMore,
 };
 
 use crate::apart::{take_all_apart, turn_round};
@@ -134,16 +152,7 @@ fn put_parts<S, D, E>(parts: TalkerParts<D, E>, stock: &mut Stock<S, D, E>)
 }
 
 // The reader and the replier of the last helper slot of a stock, in front of the other jobs.
-fn add_slot<
-    'g,
-    F,
-    S: Spawner + Drop,
-    D,
-    E,
-    C: Clock + Drop,
-    P: Pause + Drop,
-    N: GateName,
->(
+fn add_slot<'g, F, S: Spawner + Drop, D, E, C: Clock + Drop, P: Pause + Drop, N: GateName>(
     alloc: Global,
     gate: &'g Gate<Book>,
     clock: C,
@@ -217,16 +226,7 @@ fn add_talker<
 }
 
 // The readers and repliers of all helper slots of a stock, in front of the other jobs.
-fn add_slots<
-    'g,
-    F,
-    S: Spawner + Drop,
-    D,
-    E,
-    C: Clock + Drop,
-    P: Pause + Drop,
-    N: GateName,
->(
+fn add_slots<'g, F, S: Spawner + Drop, D, E, C: Clock + Drop, P: Pause + Drop, N: GateName>(
     alloc: Global,
     gate: &'g Gate<Book>,
     clock: C,
@@ -325,16 +325,7 @@ fn add_rest<
 }
 
 // The keeper alone, of the last pass of a stock. There is room for as many jobs more as passes are left.
-fn start_keeper<
-    'g,
-    F: Files + Drop,
-    S: Spawner + Drop,
-    D,
-    E,
-    C,
-    P: Pause + Drop,
-    N: GateName,
->(
+fn start_keeper<'g, F: Files + Drop, S: Spawner + Drop, D, E, C, P: Pause + Drop, N: GateName>(
     alloc: Global,
     gate: &'g Gate<Book>,
     path: &'g str,

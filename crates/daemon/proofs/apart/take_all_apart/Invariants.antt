@@ -1,3 +1,4 @@
+use Rattle.std.proofs.Common.{length}
 use Rattle.std.specs.Prelude.{reverse}
 use Rattle.crew.specs.Views.{jobs_of}
 use Rattle.daemon.specs.Making.{Returns}
@@ -9,4 +10,4 @@ invariant-loop-place g l =
     Returns l.initial.stock (reverse (jobs_of l.initial.places.items)) l.stock (reverse (jobs_of l.places.items))
 
 abbrev pub decreases-loop-place : goal.decreases-loop-place
-decreases-loop-place g l = goal.left-loop-place g l
+decreases-loop-place g l = length l.places.items

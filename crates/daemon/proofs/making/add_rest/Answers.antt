@@ -8,15 +8,20 @@ returns-in_err-add_talkers-clause-moves g c = c.add_talkers.ensures.moves.moves
 
 pub add_slots-requires-clause-two_each : goal.add_slots-requires-clause-two_each
 add_slots-requires-clause-two_each g c =
-    omega (arith, c.add_talkers.ensures.moves.a_pass_each, ap length c.add_talkers.ensures.moves.same_helpers,
-    c.requires.passes, c.in_ok-add_talkers.ensures.all)
+    omega (
+      arith,
+      c.add_talkers.ensures.moves.a_pass_each,
+      ap length c.add_talkers.ensures.moves.same_helpers,
+      c.requires.passes,
+      c.in_ok-add_talkers.ensures.all,
+    )
 
 pub add_slots-requires-clause-fresh : goal.add_slots-requires-clause-fresh
-add_slots-requires-clause-fresh g c = c.add_talkers.ensures.moves.moves.still_fresh _ c.requires.fresh
+add_slots-requires-clause-fresh g c = λ places bounds. c.add_talkers.ensures.moves.moves.still_fresh _ c.requires.fresh
 
 pub add_slots-requires-clause-space : goal.add_slots-requires-clause-space
 add_slots-requires-clause-space g c =
-    space_stays _ _ _ _ _ _ _ c.add_talkers.ensures.moves.moves.counts c.requires.space c.add_talkers.ensures.space
+    λ places bounds. space_stays _ _ _ _ _ _ _ c.add_talkers.ensures.moves.moves.counts c.requires.space c.add_talkers.ensures.space
 
 pub returns-in_err-add_slots-clause-moves : goal.returns-in_err-add_slots-clause-moves
 returns-in_err-add_slots-clause-moves g c =

@@ -10,11 +10,11 @@ pub add_slot-requires-clause-two_each : goal.add_slot-requires-clause-two_each
 add_slot-requires-clause-two_each g c = omega (arith, c.slots.invariant.moves.two_passes_each, c.requires.two_each)
 
 pub add_slot-requires-clause-fresh : goal.add_slot-requires-clause-fresh
-add_slot-requires-clause-fresh g c = c.slots.invariant.moves.moves.still_fresh _ c.requires.fresh
+add_slot-requires-clause-fresh g c = λ places bounds. c.slots.invariant.moves.moves.still_fresh _ c.requires.fresh
 
 pub add_slot-requires-clause-space : goal.add_slot-requires-clause-space
 add_slot-requires-clause-space g c =
-    space_stays _ _ _ _ _ _ _ c.slots.invariant.moves.moves.counts c.requires.space c.slots.invariant.space
+    λ places bounds. space_stays _ _ _ _ _ _ _ c.slots.invariant.moves.moves.counts c.requires.space c.slots.invariant.space
 
 pub slots-preserved : goal.slots-preserved
 slots-preserved g c =

@@ -8,7 +8,7 @@ use Rattle.daemon.proofs.making.add_slots.Given as goal
 abbrev pub invariant-slots : goal.invariant-slots
 invariant-slots g l = record {
   moves : MovesHelpers l.fn.clock l.initial.stock (reverse (jobs_of l.initial.places.items)) l.stock
-    (reverse (jobs_of l.places.items));
+      (reverse (jobs_of l.places.items));
   never_more : length l.stock.helpers.items ≤ length l.initial.stock.helpers.items;
   space : vec_capacity l.places ≡ vec_capacity l.initial.places;
 }

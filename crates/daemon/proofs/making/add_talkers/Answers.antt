@@ -7,17 +7,17 @@ pub slots-init : goal.slots-init
 slots-init g c = record { moves = peers_none _ _; never_more = omega arith; space = refl }
 
 pub add_talker-requires-clause-ears : goal.add_talker-requires-clause-ears
-add_talker-requires-clause-ears g c = c.slots.invariant.moves.an_ear_each c.requires.ears
+add_talker-requires-clause-ears g c = λ places bounds. c.slots.invariant.moves.an_ear_each c.requires.ears
 
 pub add_talker-requires-clause-passes : goal.add_talker-requires-clause-passes
 add_talker-requires-clause-passes g c = omega (arith, c.slots.invariant.moves.a_pass_each, c.requires.passes)
 
 pub add_talker-requires-clause-fresh : goal.add_talker-requires-clause-fresh
-add_talker-requires-clause-fresh g c = c.slots.invariant.moves.moves.still_fresh _ c.requires.fresh
+add_talker-requires-clause-fresh g c = λ places bounds. c.slots.invariant.moves.moves.still_fresh _ c.requires.fresh
 
 pub add_talker-requires-clause-space : goal.add_talker-requires-clause-space
 add_talker-requires-clause-space g c =
-    space_stays _ _ _ _ _ _ _ c.slots.invariant.moves.moves.counts c.requires.space c.slots.invariant.space
+    λ places bounds. space_stays _ _ _ _ _ _ _ c.slots.invariant.moves.moves.counts c.requires.space c.slots.invariant.space
 
 pub slots-preserved : goal.slots-preserved
 slots-preserved g c =

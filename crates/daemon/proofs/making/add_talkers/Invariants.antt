@@ -8,7 +8,7 @@ use Rattle.daemon.proofs.making.add_talkers.Given as goal
 abbrev pub invariant-slots : goal.invariant-slots
 invariant-slots g l = record {
   moves : MovesPeers l.initial.stock (reverse (jobs_of l.initial.places.items)) l.stock
-    (reverse (jobs_of l.places.items));
+      (reverse (jobs_of l.places.items));
   never_more : length l.stock.peers.items ≤ length l.initial.stock.peers.items;
   space : vec_capacity l.places ≡ vec_capacity l.initial.places;
 }

@@ -2,26 +2,45 @@ use Rattle.daemon.proofs.WholeLemmas.{left_ears, left_fresh, left_helpers, left_
 use Rattle.daemon.proofs.WholeLemmas.{all_back, all_files, all_laid, all_room, all_whole}
 use Rattle.daemon.proofs.making.make_all.Goals as goal
 
-pub add_rest-requires-clause-few_helpers : goal.add_rest-requires-clause-few_helpers
-add_rest-requires-clause-few_helpers g c = left_helpers _ _ _ _ _ _ c.in-Ok.ensures.kept _ c.requires.full
+pub add_rest-rest-requires-clause-few_helpers : goal.add_rest-rest-requires-clause-few_helpers
+add_rest-rest-requires-clause-few_helpers g c = λ places bounds. left_helpers _ _ _ _ _ _ c.in-Ok.ensures.kept _ c.requires.full
 
-pub add_rest-requires-clause-few_peers : goal.add_rest-requires-clause-few_peers
-add_rest-requires-clause-few_peers g c = left_peers _ _ _ _ _ _ c.in-Ok.ensures.kept _ c.requires.full
+pub add_rest-rest-requires-clause-few_peers : goal.add_rest-rest-requires-clause-few_peers
+add_rest-rest-requires-clause-few_peers g c = λ places bounds. left_peers _ _ _ _ _ _ c.in-Ok.ensures.kept _ c.requires.full
 
-pub add_rest-requires-clause-ears : goal.add_rest-requires-clause-ears
-add_rest-requires-clause-ears g c = left_ears _ _ _ _ _ _ c.in-Ok.ensures.kept _ c.requires.full
+pub add_rest-rest-requires-clause-ears : goal.add_rest-rest-requires-clause-ears
+add_rest-rest-requires-clause-ears g c = λ places bounds. left_ears _ _ _ _ _ _ c.in-Ok.ensures.kept _ c.requires.full
 
-pub add_rest-requires-clause-passes : goal.add_rest-requires-clause-passes
-add_rest-requires-clause-passes g c = left_passes _ _ _ _ _ _ c.in-Ok.ensures.kept _ c.requires.full
+pub add_rest-rest-requires-clause-passes : goal.add_rest-rest-requires-clause-passes
+add_rest-rest-requires-clause-passes g c = λ places bounds. left_passes _ _ _ _ _ _ c.in-Ok.ensures.kept _ c.requires.full
 
-pub add_rest-requires-clause-fresh : goal.add_rest-requires-clause-fresh
-add_rest-requires-clause-fresh g c = left_fresh _ _ _ _ _ _ c.in-Ok.ensures.kept _ c.requires.full
+pub add_rest-rest-requires-clause-fresh : goal.add_rest-rest-requires-clause-fresh
+add_rest-rest-requires-clause-fresh g c = λ places bounds. left_fresh _ _ _ _ _ _ c.in-Ok.ensures.kept _ c.requires.full
 
-pub take_all_apart-requires : goal.take_all_apart-requires
-take_all_apart-requires g c =
-    record {
+pub take_all_apart-requires-after_bounds : goal.take_all_apart-requires-after_bounds
+take_all_apart-requires-after_bounds g c =
+    λ places bounds. record {
       whole = all_whole _ _ _ _ _ _ _ _ _ _ c.turn_round.ensures c.in-Ok.ensures.kept c.add_rest-rest.ensures.moves;
       room =
           all_room _ _ _ _ _ _ _ _ _ _ c.turn_round.ensures c.in-Ok.ensures.kept c.add_rest-rest.ensures.moves
           c.start_keeper.ensures.room;
     }
+
+pub returns-in-Ok-rest-clause-laid : goal.returns-in-Ok-rest-clause-laid
+returns-in-Ok-rest-clause-laid g c =
+    all_laid _ _ _ _ _ _ _ _ _ _ c.turn_round.ensures c.in-Ok.ensures.kept _ c.in-Ok-rest.ensures.lays
+
+pub returns-in-Ok-rest-clause-room : goal.returns-in-Ok-rest-clause-room
+returns-in-Ok-rest-clause-room g c =
+    all_room _ _ _ _ _ _ _ _ _ _ c.turn_round.ensures c.in-Ok.ensures.kept c.add_rest-rest.ensures.moves
+    c.start_keeper.ensures.room
+
+pub returns-in-Err-rest-clause-files : goal.returns-in-Err-rest-clause-files
+returns-in-Err-rest-clause-files g c =
+    all_files _ _ _ _ _ _ _ _ _ _ c.turn_round.ensures c.in-Ok.ensures.kept c.add_rest-rest.ensures.moves _
+    c.take_all_apart.ensures.files
+
+pub returns-in-Err-rest-clause-back : goal.returns-in-Err-rest-clause-back
+returns-in-Err-rest-clause-back g c =
+    all_back _ _ _ _ _ _ _ _ _ _ c.turn_round.ensures c.in-Ok.ensures.kept c.add_rest-rest.ensures.moves _
+    c.take_all_apart.ensures.back
