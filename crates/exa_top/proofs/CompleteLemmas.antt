@@ -195,7 +195,7 @@ refuses_it one apart once content command source source' sink sink' fault status
 refuses_it one apart once content command source source' sink sink' fault (status.ConfigRefused other) answered told
     config =
     inl (ap status.ConfigRefused (refused_once apart once content command fault other (answered.refused other refl)
-        told))
+    told))
 refuses_it one apart once content command source source' sink sink' fault status.ReadFault answered told config =
     absurd (not_configured one apart content command fault (answered.late tt) told)
 refuses_it one apart once content command source source' sink sink' fault status.WriteFault answered told config =

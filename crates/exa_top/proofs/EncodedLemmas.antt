@@ -363,7 +363,7 @@ pub plain_answered : (content : Option (List ℕ → List ℕ)) (ends_of : Ends)
     → Answered content (EncodePlain ends_of) source source' sink sink' ends
 plain_answered content ends_of source source' sink sink' ends encodes =
     encoder_answered content (EncodePlain ends_of) (plain_of ends_of) (plain_encoder content ends_of) source source'
-        sink
+    sink
     sink' ends encodes
 
 -- a file that is a configuration without a process

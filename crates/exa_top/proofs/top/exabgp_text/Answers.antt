@@ -8,14 +8,14 @@ use Rattle.exa_top.proofs.top.exabgp_text.Goals as goal
 pub returns-in-Some-clause-refuses : goal.returns-in-Some-clause-refuses
 returns-in-Some-clause-refuses g c fault command is faulty files =
     refuses_it c.files_say_one.ensures.values c.files_say_one.ensures.apart c.files_say_one.ensures.faults _
-        c.in-Some.command _ _ _ _ fault
+    c.in-Some.command _ _ _ _ fault
     c.run.result c.run.ensures.answered (faulty c.in-Some.command c.in-Some.ensures.found)
     (λ unread. files (counts_rose _ _ (c.run.ensures.config unread)))
 
 pub returns-in-Some-clause-complete : goal.returns-in-Some-clause-complete
 returns-in-Some-clause-complete g c command is good script short files input output =
     completed c.files_say_one.ensures.values c.files_say_one.ensures.apart _ c.in-Some.command _ _ _ _ c.run.result
-        c.run.ensures.answered
+    c.run.ensures.answered
     (good c.in-Some.command c.in-Some.ensures.found) (script c.in-Some.command c.in-Some.ensures.found)
     (λ reads. short (c.in-Some.command, c.in-Some.ensures.found, reads))
     (λ unread. files (counts_rose _ _ (c.run.ensures.config unread))) input output
