@@ -2,16 +2,16 @@
 ghost use Rattle.std.specs.Prelude.{◌≡◌, IfOk, length};
 
 use super::messages::{THEIRS, messages};
-use super::plan::{
-    AGAIN, ALL, CONNECTS, ENDED, FIRST, FIRST_TAKES, GAVE, HAND, KILLED, LEFT, LINK, LINK_TAKES,
-    Marks, OPENED, OPENS, OTHER_KILLED, OTHER_TOOK, Plan, RESTED, SAID, SECOND, STARTS, THREADS,
-    TOOK, failing, lines, next, script, ticks,
+use super::plan::Act::{
+    Begins, Connects, Ended, Failed, FirstGives, FirstKilled, FirstTakes, LinkGives, LinkTakes,
+    Opens, SecondGives, SecondKilled, SecondTakes, Starts,
 };
+use super::plan::{ALL, Fails, Held, Marks, Plan};
 use super::watched::WatchedFiles;
 use crate::{Ran, World, exabgp_run};
 use outside::{
-    CountedWait, CrewPlan, HeldFile, Hold, Mark, MemoryClock, MemoryDialer, MemoryFiles,
-    MemoryLink, MemoryPause, MemorySpawner, NoEar, ReadyChild, ReadyLink,
+    CrewPlan, HeldFile, Hold, MemoryDialer, MemoryFiles, MemoryPause, MemorySpawner, NoEar,
+    ReadyChild, ReadyLink, Script, StillClock,
 };
 use script_play::Status;
 use std::alloc::Global;
@@ -26,31 +26,13 @@ const CALLS: usize = 16;
 // How many bytes there is room for that a child or a link takes, and how many quiet calls of a link.
 const BYTES: usize = 65_536;
 
-// How long a reader rests that may start no helper, in milliseconds.
-const REST: u64 = 1_000;
-
-/// The path of a configuration of two helpers and no neighbour.
-pub const HELPERS: &str = "helpers.conf";
-
-/// The path of a configuration of one helper and a neighbour.
-pub const ONE: &str = "one.conf";
-
 /// The path of a configuration of two helpers and a neighbour.
 pub const TWO: &str = "two.conf";
 
 /// The path of a file that is no configuration.
 pub const BAD: &str = "bad.conf";
 
-const HELD: [HeldFile<'static>; 4] = [
-    HeldFile {
-        path: HELPERS,
-        content: b"process h { run /bin/cat; } process g { run /bin/cat; }",
-    },
-    HeldFile {
-        path: ONE,
-        content: b"process h { run /bin/cat; } neighbor 192.0.2.2 { local-address 192.0.2.9; \
-            local-as 65001; peer-as 65002; api { processes [ h ]; } }",
-    },
+const HELD: [HeldFile<'static>; 2] = [
     HeldFile {
         path: TWO,
         content: b"process h { run /bin/cat; } process g { run /bin/cat; } neighbor 192.0.2.2 { \
@@ -62,16 +44,17 @@ const HELD: [HeldFile<'static>; 4] = [
     },
 ];
 
-/// What is planned for a run that ends well, and what must stand at its end.
+/// What is planned for a run that the second helper ends well, and what must stand at its end.
 #[derive(Clone, Copy)]
 pub struct Case<'a> {
     pub why: &'static str,
-    pub path: &'static str,
-    pub plan: &'a [Plan<'a>],
+    pub first: &'a [u8],
+    pub held: &'a [Held],
+    pub fails: &'a [Fails<'a>],
     /// The faults of the files, the first helper and the neighbour.
     pub faults: [u64; 3],
-    /// What each helper's first child took: a text, so many times.
-    pub replies: [(&'static str, usize); 2],
+    /// What the first helper's first child took.
+    pub replies: &'static str,
     /// What the links took: so many bytes of the messages of these letters.
     pub said: &'static [(&'static str, usize)],
 }
@@ -82,36 +65,25 @@ pub type Devices<'a> = World<
     WatchedFiles<'a>,
     MemorySpawner<'a>,
     MemoryDialer<'a>,
-    MemoryClock<'a>,
+    StillClock,
     MemoryPause<'a>,
     NoEar,
 >;
 
-/// What holds the ways of a run, and where its rests are counted.
+/// What holds the acts of a run.
 #[derive(Drop)]
 pub struct Holds<'a> {
     first: [Hold<'a>; 2],
-    first_takes: [Hold<'a>; 2],
     second: [Hold<'a>; 2],
     link: [Hold<'a>; 2],
-    link_takes: [Hold<'a>; 2],
-    again: [Hold<'a>; 2],
-    rests: [CountedWait<'a>; 1],
 }
 
 impl<'a> Holds<'a> {
-    pub fn new(plan: &[Plan<'_>], marks: &'a Marks) -> Self {
+    pub fn new(plan: Plan<'_>, marks: &'a Marks) -> Self {
         Holds {
-            first: marks.holds(plan, FIRST),
-            first_takes: marks.holds(plan, FIRST_TAKES),
-            second: marks.holds(plan, SECOND),
-            link: marks.holds(plan, LINK),
-            link_takes: marks.holds(plan, LINK_TAKES),
-            again: marks.holds(plan, AGAIN),
-            rests: [CountedWait {
-                ms: REST,
-                mark: marks.of(RESTED),
-            }],
+            first: marks.holds(plan, FirstGives, plan.first.len()),
+            second: marks.holds(plan, SecondGives, plan.second.len()),
+            link: marks.holds(plan, LinkGives, ALL),
         }
     }
 }
@@ -132,74 +104,57 @@ fn helper<'a>(
 // The helpers. Where something is waited for in vain, the second one's next child ends the daemon.
 fn helpers<'a>(
     alloc: Global,
-    plan: &'a [Plan<'a>],
+    plan: Plan<'a>,
     holds: &'a Holds<'a>,
     marks: &'a Marks,
 ) -> Result<Vec<MemorySpawner<'a>>, Fail>
     ensures { IfOk result (λ helpers. length helpers.items ≡ 2) }
 {
-    let first = ReadyChild::new(alloc, lines(plan, FIRST), BYTES)?
-        .giving(script(plan, FIRST, &holds.first, marks.of(GAVE)))
-        .taking(script(plan, FIRST_TAKES, &holds.first_takes, marks.of(TOOK)))
-        .killed_at(marks.of(KILLED));
-    let second = ReadyChild::new(alloc, lines(plan, SECOND), BYTES)?
-        .giving(script(plan, SECOND, &holds.second, marks.other()))
-        .taking(script(plan, ALL, &[], marks.of(OTHER_TOOK)))
-        .killed_at(marks.of(OTHER_KILLED));
-    let (_, starts) = failing(plan, STARTS);
-    let one = helper(alloc, first, next(plan), starts)?;
+    let first = ReadyChild::new(alloc, plan.first, BYTES)?
+        .giving(plan.script(FirstGives, &holds.first, marks))
+        .taking(plan.script(FirstTakes, &[], marks))
+        .killed_at(marks.of(FirstKilled));
+    let second = ReadyChild::new(alloc, plan.second, BYTES)?
+        .giving(plan.script(SecondGives, &holds.second, marks))
+        .taking(plan.script(SecondTakes, &[], marks))
+        .killed_at(marks.of(SecondKilled));
+    let (_, starts) = plan.failing(Starts);
+    let one = helper(alloc, first, b"", starts)?;
     let mut helpers = Vec::new(alloc);
-    helpers.push(one.marking(marks.of(ENDED), marks.other()))?;
+    helpers.push(one.marking(marks.of(Ended), marks.of(Failed)))?;
     helpers.push(helper(alloc, second, b"shutdown\n", &[])?)?;
     Ok(helpers)
 }
 
-// A link on which the neighbour's session comes up.
-fn link<'a>(
-    alloc: Global,
-    plan: &'a [Plan<'a>],
-    gives: usize,
-    given: &'a [Hold<'a>],
-    takes: usize,
-    taken: &'a [Hold<'a>],
-    marks: &'a Marks,
-) -> Result<ReadyLink<'a>, Fail> {
-    Ok(
-        ReadyLink::new(alloc, THEIRS, BYTES, BYTES)?
-            .quiet()
-            .giving(script(plan, gives, given, marks.other()))
-            .taking(script(plan, takes, taken, marks.of(SAID))),
-    )
-}
-
-// The neighbour, with two links.
+// The neighbour, whose session comes up on its first link and on its second.
 fn neighbor<'a>(
     alloc: Global,
-    plan: &'a [Plan<'a>],
+    plan: Plan<'a>,
     holds: &'a Holds<'a>,
     marks: &'a Marks,
 ) -> Result<MemoryDialer<'a>, Fail> {
+    let link = ReadyLink::new(alloc, THEIRS, BYTES, BYTES)?
+        .quiet()
+        .giving(plan.script(LinkGives, &holds.link, marks))
+        .taking(plan.script(LinkTakes, &[], marks));
+    let again = ReadyLink::new(alloc, THEIRS, BYTES, BYTES)?
+        .quiet()
+        .taking(Script {
+            moved: Some(marks.of(LinkTakes)),
+            ..Script::new()
+        });
     let mut ready = Vec::new(alloc);
-    ready.push(link(
-        alloc,
-        plan,
-        LINK,
-        &holds.link,
-        LINK_TAKES,
-        &holds.link_takes,
-        marks,
-    )?)?;
-    ready.push(link(alloc, plan, AGAIN, &holds.again, ALL, &[], marks)?)?;
-    let (_, connects) = failing(plan, CONNECTS);
-    let dialer = MemoryDialer::new(alloc, ready, CALLS, connects)?;
-    Ok(dialer.marking(marks.of(LEFT), marks.other()))
+    ready.push(link)?;
+    ready.push(again)?;
+    let (_, connects) = plan.failing(Connects);
+    Ok(MemoryDialer::new(alloc, ready, CALLS, connects)?)
 }
 
 /// The devices of a run.
 pub fn devices<'a>(
     alloc: Global,
     hasher: RandomState,
-    plan: &'a [Plan<'a>],
+    plan: Plan<'a>,
     holds: &'a Holds<'a>,
     marks: &'a Marks,
 ) -> Result<Devices<'a>, Fail>
@@ -211,18 +166,18 @@ pub fn devices<'a>(
     peers.push(neighbor(alloc, plan, holds, marks)?)?;
     let mut ears = Vec::new(alloc);
     ears.push(NoEar)?;
-    let (_, opens) = failing(plan, OPENS);
-    let (_, refused) = failing(plan, THREADS);
+    let (_, opens) = plan.failing(Opens);
+    let (_, refused) = plan.failing(Begins);
     Ok(World {
         files: WatchedFiles {
             files: MemoryFiles::new(&HELD, opens, &[]),
-            opened: marks.of(OPENED),
+            opened: marks.of(Opens),
         },
         helpers,
         peers,
         ears,
-        clock: MemoryClock::new(marks.of(HAND)),
-        pause: MemoryPause::new(&holds.rests).moving(marks.of(HAND), ticks(plan)),
+        clock: StillClock,
+        pause: MemoryPause::new(&[]),
         hasher,
         crew: CrewPlan::new(refused),
         last: None,
@@ -236,17 +191,28 @@ pub fn drive<R: Threads + Wait + Sync>(
     hasher: RandomState,
     case: &Case<'_>,
 ) -> Result<(), Fail> {
+    let plan = Plan {
+        first: case.first,
+        second: b"shutdown\n",
+        held: case.held,
+        fails: case.fails,
+    };
     let marks = Marks::new();
-    let holds = Holds::new(case.plan, &marks);
-    let world = devices(alloc, hasher, case.plan, &holds, &marks)?;
-    let Ran { status, world } = exabgp_run(rt, alloc, &["run", case.path], world);
+    let holds = Holds::new(plan, &marks);
+    let world = devices(alloc, hasher, plan, &holds, &marks)?;
+    let Ran { status, world } = exabgp_run(rt, alloc, &["run", TWO], world);
     see(!marks.was_missed(), case.why, "somebody waits in vain")?;
     see(status == Status::Ok, case.why, "another status")?;
     see(faults(&world) == case.faults, case.why, "other faults")?;
-    let [first, second] = case.replies;
-    see_replies(alloc, took(&world, 0), first, case.why)?;
-    see_replies(alloc, took(&world, 1), second, case.why)?;
-    see_links(alloc, links(&world), case.said, case.why)
+    let first = took(&world, 0).unwrap_or(&[]);
+    see(first == case.replies.as_bytes(), case.why, "other replies")?;
+    let second = took(&world, 1).unwrap_or(&[]);
+    see(
+        second == b"done\n".as_slice(),
+        case.why,
+        "no end by the second helper",
+    )?;
+    see_links(alloc, &world, case)
 }
 
 // A failure, where something doesn't stand.
@@ -267,53 +233,33 @@ fn faults(world: &Devices<'_>) -> [u64; 3] {
     ]
 }
 
-/// What a helper's first child took, as far as it is told.
-pub fn took<'w>(world: &'w Devices<'_>, h: usize) -> &'w [u8] {
-    let Some(helper) = world.helpers.get(h) else {
-        return &[];
-    };
-    let Some(ended) = helper.ended() else {
-        return &[];
-    };
-    let Some(pipes) = ended.first() else {
-        return &[];
-    };
-    pipes.sink.bytes().unwrap_or(&[])
+/// What a helper's first child took, where it was started and has ended.
+pub fn took<'w>(world: &'w Devices<'_>, h: usize) -> Option<&'w [u8]> {
+    let helper = world.helpers.get(h)?;
+    let pipes = helper.ended()?.first()?;
+    pipes.sink.bytes()
 }
 
-/// The links that have ended, as far as they are told.
-pub fn links<'w, 'a>(world: &'w Devices<'a>) -> Option<&'w [MemoryLink<'a>]> {
-    let peer = world.peers.first()?;
-    peer.ended()
-}
-
-// Sees that a child took a text, so many times.
-fn see_replies(
-    alloc: Global,
-    taken: &[u8],
-    wanted: (&'static str, usize),
-    why: &'static str,
-) -> Result<(), Fail> {
-    let (text, times) = wanted;
-    let mut bytes = Vec::new(alloc);
-    for _ in 0..times {
-        bytes.extend_from_slice(text.as_bytes())?;
-    }
-    see(taken == bytes.as_slice(), why, "other replies")
-}
-
-// Sees that the links took so many bytes of the messages of these letters.
-fn see_links(
-    alloc: Global,
-    links: Option<&[MemoryLink<'_>]>,
-    wanted: &[(&'static str, usize)],
-    why: &'static str,
-) -> Result<(), Fail> {
-    let links = links.ok_or("no list of links")?;
-    see(links.len() == wanted.len(), why, "another number of links")?;
-    for (link, (letters, count)) in links.iter().zip(wanted) {
+// Sees that the links took what the case says.
+fn see_links(alloc: Global, world: &Devices<'_>, case: &Case<'_>) -> Result<(), Fail> {
+    for (link, (letters, count)) in case.said.iter().enumerate() {
         let all = messages(alloc, letters)?;
-        see(link.bytes() == all.get(..*count), why, "other messages")?;
+        see(
+            all.get(..*count) == said(world, link),
+            case.why,
+            "other messages",
+        )?;
     }
-    Ok(())
+    see(
+        said(world, case.said.len()).is_none(),
+        case.why,
+        "more links",
+    )
+}
+
+// What a link took, where it was opened and has ended.
+fn said<'w>(world: &'w Devices<'_>, link: usize) -> Option<&'w [u8]> {
+    let peer = world.peers.first()?;
+    let link = peer.ended()?.get(link)?;
+    link.bytes()
 }
