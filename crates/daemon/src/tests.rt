@@ -4,21 +4,19 @@ mod cases;
 mod driver;
 mod messages;
 mod plan;
-mod watched;
 
 use crate::{Ran, exabgp_run};
 use cases::CASES;
-use driver::{BAD, Devices, Holds, TWO, devices, drive, took};
-use plan::Act::{Begins, Opens, SecondGives, SecondTakes};
+use driver::{BAD, Holds, TWO, devices, drive, took};
+use plan::Act::{Begins, Opens, OtherTook, Second};
 use plan::{ALL, Fails, Held, Marks, Plan};
 use script_play::Status;
-use std::hash::RandomState;
 use std::test::Fail;
 
 #[test]
 fn a_daemon_goes_on_or_ends_as_its_devices_do(rt: HostRuntime) -> Result<(), Fail> {
     for case in &CASES {
-        drive(&rt, rt.alloc(), RandomState::new(&rt)?, case)?;
+        drive(&rt, case)?;
     }
     Ok(())
 }
@@ -35,7 +33,7 @@ fn a_worker_that_is_refused_ends_the_daemon(rt: HostRuntime) -> Result<(), Fail>
         };
         let marks = Marks::new();
         let holds = Holds::new(plan, &marks);
-        let world = devices(rt.alloc(), RandomState::new(&rt)?, plan, &holds, &marks)?;
+        let world = devices(&rt, plan, &holds, &marks)?;
         let Ran { status, world } = exabgp_run(&rt, rt.alloc(), &["run", TWO], world);
         assert_eq!(rt; status, Status::NoCrew);
         assert_eq!(rt; world.crew.faults(), 1);
@@ -55,12 +53,12 @@ fn a_helper_that_never_pauses_keeps_no_other_from_ending_the_daemon(
     let plan = Plan {
         first: &remarks,
         second: b"# b\nshutdown\n",
-        held: &[Held(SecondGives, 4, SecondTakes, 5)],
+        held: &[Held(Second, 4, OtherTook, 5)],
         fails: &[],
     };
     let marks = Marks::new();
     let holds = Holds::new(plan, &marks);
-    let world = devices(rt.alloc(), RandomState::new(&rt)?, plan, &holds, &marks)?;
+    let world = devices(&rt, plan, &holds, &marks)?;
     let Ran { status, world } = exabgp_run(&rt, rt.alloc(), &["run", TWO], world);
     assert_eq!(rt; status, Status::Ok);
     assert_eq!(rt; took(&world, 1), Some(b"done\ndone\n".as_slice()));
@@ -77,23 +75,18 @@ fn a_daemon_without_a_configuration_starts_nothing(rt: HostRuntime) -> Result<()
     };
     let marks = Marks::new();
     let holds = Holds::new(plan, &marks);
-    let world = devices(rt.alloc(), RandomState::new(&rt)?, plan, &holds, &marks)?;
+    let world = devices(&rt, plan, &holds, &marks)?;
     let Ran { status, world } = exabgp_run(&rt, rt.alloc(), &["run", BAD], world);
     assert_eq!(rt; status.number(), 4);
-    assert!(rt; is_untouched(&world));
+    assert!(rt; world.last.is_none());
     let Ran { status, world } = exabgp_run(&rt, rt.alloc(), &["run", TWO], world);
     assert_eq!(rt; status, Status::ConfigRead);
-    assert!(rt; is_untouched(&world));
+    assert!(rt; world.last.is_none());
     let Ran { status, world } = exabgp_run(&rt, rt.alloc(), &["run", TWO], world);
     assert_eq!(rt; status, Status::Ok);
-    assert!(rt; !is_untouched(&world));
+    assert!(rt; world.last.is_some());
     let Ran { status, world } = exabgp_run(&rt, rt.alloc(), &["run"], world);
     assert_eq!(rt; status, Status::Usage);
     assert!(rt; world.last.is_some());
     Ok(())
-}
-
-// Whether nothing was started and nothing was run.
-fn is_untouched(world: &Devices<'_>) -> bool {
-    world.last.is_none() && took(world, 1).is_none()
 }

@@ -3,11 +3,10 @@ ghost use Rattle.std.specs.Prelude.{◌≡◌, IfOk, length};
 
 use super::messages::{THEIRS, messages};
 use super::plan::Act::{
-    Begins, Connects, Ended, Failed, FirstGives, FirstKilled, FirstTakes, LinkGives, LinkTakes,
-    Opens, SecondGives, SecondKilled, SecondTakes, Starts,
+    Begins, Connects, Ended, Failed, First, Killed, Link, Opens, OtherKilled, OtherTook, Said,
+    Second, Starts, Took,
 };
 use super::plan::{ALL, Fails, Held, Marks, Plan};
-use super::watched::WatchedFiles;
 use crate::{Ran, World, exabgp_run};
 use outside::{
     CrewPlan, HeldFile, Hold, MemoryDialer, MemoryFiles, MemoryPause, MemorySpawner, NoEar,
@@ -16,9 +15,7 @@ use outside::{
 use script_play::Status;
 use std::alloc::Global;
 use std::hash::RandomState;
-use std::sync::Wait;
 use std::test::Fail;
-use std::thread::Threads;
 
 // How many starts and connects there is room for.
 const CALLS: usize = 16;
@@ -44,17 +41,17 @@ const HELD: [HeldFile<'static>; 2] = [
     },
 ];
 
-/// What is planned for a run that the second helper ends well, and what must stand at its end.
+/// What is planned for a run that the second helper ends, and what must stand at its end.
 #[derive(Clone, Copy)]
 pub struct Case<'a> {
     pub why: &'static str,
     pub first: &'a [u8],
     pub held: &'a [Held],
     pub fails: &'a [Fails<'a>],
-    /// The faults of the files, the first helper and the neighbour.
-    pub faults: [u64; 3],
+    /// The faults of the first helper and of the neighbour.
+    pub faults: (u64, u64),
     /// What the first helper's first child took.
-    pub replies: &'static str,
+    pub replies: &'static [u8],
     /// What the links took: so many bytes of the messages of these letters.
     pub said: &'static [(&'static str, usize)],
 }
@@ -62,7 +59,7 @@ pub struct Case<'a> {
 /// The devices of a run, and what they tell after it.
 pub type Devices<'a> = World<
     'a,
-    WatchedFiles<'a>,
+    MemoryFiles<'a>,
     MemorySpawner<'a>,
     MemoryDialer<'a>,
     StillClock,
@@ -81,49 +78,45 @@ pub struct Holds<'a> {
 impl<'a> Holds<'a> {
     pub fn new(plan: Plan<'_>, marks: &'a Marks) -> Self {
         Holds {
-            first: marks.holds(plan, FirstGives, plan.first.len()),
-            second: marks.holds(plan, SecondGives, plan.second.len()),
-            link: marks.holds(plan, LinkGives, ALL),
+            first: marks.holds(plan, First, plan.first.len()),
+            second: marks.holds(plan, Second, plan.second.len()),
+            link: marks.holds(plan, Link, ALL),
         }
     }
 }
 
-// A helper that starts this child, and then one that gives these lines.
-fn helper<'a>(
-    alloc: Global,
-    child: ReadyChild<'a>,
-    next: &'a [u8],
-    failing: &'a [u64],
-) -> Result<MemorySpawner<'a>, Fail> {
-    let mut ready = Vec::new(alloc);
-    ready.push(child)?;
-    ready.push(ReadyChild::new(alloc, next, BYTES)?)?;
-    Ok(MemorySpawner::new(alloc, ready, CALLS, failing)?)
-}
-
-// The helpers. Where something is waited for in vain, the second one's next child ends the daemon.
-fn helpers<'a>(
+// The first helper, with one child.
+fn first<'a>(
     alloc: Global,
     plan: Plan<'a>,
     holds: &'a Holds<'a>,
     marks: &'a Marks,
-) -> Result<Vec<MemorySpawner<'a>>, Fail>
-    ensures { IfOk result (λ helpers. length helpers.items ≡ 2) }
-{
-    let first = ReadyChild::new(alloc, plan.first, BYTES)?
-        .giving(plan.script(FirstGives, &holds.first, marks))
-        .taking(plan.script(FirstTakes, &[], marks))
-        .killed_at(marks.of(FirstKilled));
-    let second = ReadyChild::new(alloc, plan.second, BYTES)?
-        .giving(plan.script(SecondGives, &holds.second, marks))
-        .taking(plan.script(SecondTakes, &[], marks))
-        .killed_at(marks.of(SecondKilled));
-    let (_, starts) = plan.failing(Starts);
-    let one = helper(alloc, first, b"", starts)?;
-    let mut helpers = Vec::new(alloc);
-    helpers.push(one.marking(marks.of(Ended), marks.of(Failed)))?;
-    helpers.push(helper(alloc, second, b"shutdown\n", &[])?)?;
-    Ok(helpers)
+) -> Result<MemorySpawner<'a>, Fail> {
+    let child = ReadyChild::new(alloc, plan.first, BYTES)?
+        .giving(plan.script(First, &holds.first, marks))
+        .taking(plan.script(Took, &[], marks))
+        .killed_at(marks.of(Killed));
+    let mut ready = Vec::new(alloc);
+    ready.push(child)?;
+    let helper = MemorySpawner::new(alloc, ready, CALLS, plan.failing(Starts).1)?;
+    Ok(helper.marking(marks.of(Ended), marks.of(Failed)))
+}
+
+// The second helper. Its second child ends the daemon, where the first one waits in vain.
+fn second<'a>(
+    alloc: Global,
+    plan: Plan<'a>,
+    holds: &'a Holds<'a>,
+    marks: &'a Marks,
+) -> Result<MemorySpawner<'a>, Fail> {
+    let child = ReadyChild::new(alloc, plan.second, BYTES)?
+        .giving(plan.script(Second, &holds.second, marks))
+        .taking(plan.script(OtherTook, &[], marks))
+        .killed_at(marks.of(OtherKilled));
+    let mut ready = Vec::new(alloc);
+    ready.push(child)?;
+    ready.push(ReadyChild::new(alloc, b"shutdown\n", BYTES)?)?;
+    Ok(MemorySpawner::new(alloc, ready, CALLS, &[])?)
 }
 
 // The neighbour, whose session comes up on its first link and on its second.
@@ -135,25 +128,23 @@ fn neighbor<'a>(
 ) -> Result<MemoryDialer<'a>, Fail> {
     let link = ReadyLink::new(alloc, THEIRS, BYTES, BYTES)?
         .quiet()
-        .giving(plan.script(LinkGives, &holds.link, marks))
-        .taking(plan.script(LinkTakes, &[], marks));
+        .giving(plan.script(Link, &holds.link, marks))
+        .taking(plan.script(Said, &[], marks));
     let again = ReadyLink::new(alloc, THEIRS, BYTES, BYTES)?
         .quiet()
         .taking(Script {
-            moved: Some(marks.of(LinkTakes)),
+            moved: Some(marks.of(Said)),
             ..Script::new()
         });
     let mut ready = Vec::new(alloc);
     ready.push(link)?;
     ready.push(again)?;
-    let (_, connects) = plan.failing(Connects);
-    Ok(MemoryDialer::new(alloc, ready, CALLS, connects)?)
+    Ok(MemoryDialer::new(alloc, ready, CALLS, plan.failing(Connects).1)?)
 }
 
 /// The devices of a run.
 pub fn devices<'a>(
-    alloc: Global,
-    hasher: RandomState,
+    rt: &HostRuntime,
     plan: Plan<'a>,
     holds: &'a Holds<'a>,
     marks: &'a Marks,
@@ -161,36 +152,29 @@ pub fn devices<'a>(
     ensures { IfOk result (λ devices. (length devices.helpers.items ≡ 2)
         × (length devices.peers.items ≡ 1) × (length devices.ears.items ≡ 1)) }
 {
-    let helpers = helpers(alloc, plan, holds, marks)?;
+    let alloc = rt.alloc();
+    let mut helpers = Vec::new(alloc);
+    helpers.push(first(alloc, plan, holds, marks)?)?;
+    helpers.push(second(alloc, plan, holds, marks)?)?;
     let mut peers = Vec::new(alloc);
     peers.push(neighbor(alloc, plan, holds, marks)?)?;
     let mut ears = Vec::new(alloc);
     ears.push(NoEar)?;
-    let (_, opens) = plan.failing(Opens);
-    let (_, refused) = plan.failing(Begins);
     Ok(World {
-        files: WatchedFiles {
-            files: MemoryFiles::new(&HELD, opens, &[]),
-            opened: marks.of(Opens),
-        },
+        files: MemoryFiles::new(&HELD, plan.failing(Opens).1, &[]),
         helpers,
         peers,
         ears,
         clock: StillClock,
         pause: MemoryPause::new(&[]),
-        hasher,
-        crew: CrewPlan::new(refused),
+        hasher: RandomState::new(rt)?,
+        crew: CrewPlan::new(plan.failing(Begins).1),
         last: None,
     })
 }
 
 /// Runs a case, and sees that at its end everything stands that must.
-pub fn drive<R: Threads + Wait + Sync>(
-    rt: &R,
-    alloc: Global,
-    hasher: RandomState,
-    case: &Case<'_>,
-) -> Result<(), Fail> {
+pub fn drive(rt: &HostRuntime, case: &Case<'_>) -> Result<(), Fail> {
     let plan = Plan {
         first: case.first,
         second: b"shutdown\n",
@@ -199,38 +183,31 @@ pub fn drive<R: Threads + Wait + Sync>(
     };
     let marks = Marks::new();
     let holds = Holds::new(plan, &marks);
-    let world = devices(alloc, hasher, plan, &holds, &marks)?;
-    let Ran { status, world } = exabgp_run(rt, alloc, &["run", TWO], world);
-    see(!marks.was_missed(), case.why, "somebody waits in vain")?;
-    see(status == Status::Ok, case.why, "another status")?;
-    see(faults(&world) == case.faults, case.why, "other faults")?;
-    let first = took(&world, 0).unwrap_or(&[]);
-    see(first == case.replies.as_bytes(), case.why, "other replies")?;
-    let second = took(&world, 1).unwrap_or(&[]);
-    see(
-        second == b"done\n".as_slice(),
-        case.why,
-        "no end by the second helper",
-    )?;
-    see_links(alloc, &world, case)
-}
-
-// A failure, where something doesn't stand.
-fn see(stands: bool, why: &'static str, what: &'static str) -> Result<(), Fail> {
-    if stands {
-        Ok(())
-    } else {
-        Err(Fail::new(format_args!("{why}: {what}")))
+    let world = devices(rt, plan, &holds, &marks)?;
+    let Ran { status, world } = exabgp_run(rt, rt.alloc(), &["run", TWO], world);
+    let why = case.why;
+    assert!(rt; !marks.was_missed(), "{why}: somebody waits in vain");
+    assert_eq!(rt; status, Status::Ok, "{why}");
+    assert_eq!(rt; faults(&world), case.faults, "{why}");
+    assert_eq!(rt; took(&world, 0).unwrap_or(&[]), case.replies, "{why}");
+    assert_eq!(rt;
+        took(&world, 1).unwrap_or(&[]),
+        b"done\n".as_slice(),
+        "{why}"
+    );
+    for (link, (letters, count)) in case.said.iter().enumerate() {
+        let all = messages(rt.alloc(), letters)?;
+        assert_eq!(rt; said(&world, link), all.get(..*count), "{why}");
     }
+    assert!(rt; said(&world, case.said.len()).is_none(), "{why}");
+    Ok(())
 }
 
-// How often the files, the first helper and the neighbour failed.
-fn faults(world: &Devices<'_>) -> [u64; 3] {
-    [
-        world.files.files.faults(),
-        world.helpers.first().map_or(0, |helper| helper.faults()),
-        world.peers.first().map_or(0, |peer| peer.faults()),
-    ]
+// How often the first helper and the neighbour failed.
+fn faults(world: &Devices<'_>) -> (u64, u64) {
+    let helper = world.helpers.first().map_or(0, |helper| helper.faults());
+    let neighbor = world.peers.first().map_or(0, |peer| peer.faults());
+    (helper, neighbor)
 }
 
 /// What a helper's first child took, where it was started and has ended.
@@ -238,23 +215,6 @@ pub fn took<'w>(world: &'w Devices<'_>, h: usize) -> Option<&'w [u8]> {
     let helper = world.helpers.get(h)?;
     let pipes = helper.ended()?.first()?;
     pipes.sink.bytes()
-}
-
-// Sees that the links took what the case says.
-fn see_links(alloc: Global, world: &Devices<'_>, case: &Case<'_>) -> Result<(), Fail> {
-    for (link, (letters, count)) in case.said.iter().enumerate() {
-        let all = messages(alloc, letters)?;
-        see(
-            all.get(..*count) == said(world, link),
-            case.why,
-            "other messages",
-        )?;
-    }
-    see(
-        said(world, case.said.len()).is_none(),
-        case.why,
-        "more links",
-    )
 }
 
 // What a link took, where it was opened and has ended.

@@ -8,23 +8,23 @@ pub const ALL: usize = usize::MAX;
 /// What devices do, and what is counted of it.
 #[derive(Clone, Copy, PartialEq, Eq)]
 pub enum Act {
-    /// The first helper's first child gives and takes bytes.
-    FirstGives,
-    FirstTakes,
+    /// The first helper's first child gives bytes, and takes some.
+    First,
+    Took,
     /// The second helper's first child does.
-    SecondGives,
-    SecondTakes,
+    Second,
+    OtherTook,
     /// The links do.
-    LinkGives,
-    LinkTakes,
+    Link,
+    Said,
     /// A file is opened, the first helper is started, the neighbour is connected to, a worker begins.
     Opens,
     Starts,
     Connects,
     Begins,
     /// The helpers' first children are killed.
-    FirstKilled,
-    SecondKilled,
+    Killed,
+    OtherKilled,
     /// A child of the first helper has ended, or a call of this helper has failed.
     Ended,
     Failed,
