@@ -7,12 +7,11 @@ use super::plan::Act::{
     Second, Starts, Took,
 };
 use super::plan::{ALL, Fails, Held, Marks, Plan};
-use crate::{Ran, World, exabgp_run};
+use crate::World;
 use outside::{
     CrewPlan, HeldFile, Hold, MemoryDialer, MemoryFiles, MemoryPause, MemorySpawner, NoEar,
     ReadyChild, ReadyLink, Script, StillClock,
 };
-use script_play::Status;
 use std::alloc::Global;
 use std::hash::RandomState;
 use std::test::Fail;
@@ -54,6 +53,18 @@ pub struct Case<'a> {
     pub replies: &'static [u8],
     /// What the links took: so many bytes of the messages of these letters.
     pub said: &'static [(&'static str, usize)],
+}
+
+impl<'a> Case<'a> {
+    /// The plan of its run.
+    pub fn plan(self) -> Plan<'a> {
+        Plan {
+            first: self.first,
+            second: b"shutdown\n",
+            held: self.held,
+            fails: self.fails,
+        }
+    }
 }
 
 /// The devices of a run, and what they tell after it.
@@ -173,38 +184,8 @@ pub fn devices<'a>(
     })
 }
 
-/// Runs a case, and sees that at its end everything stands that must.
-pub fn drive(rt: &HostRuntime, case: &Case<'_>) -> Result<(), Fail> {
-    let plan = Plan {
-        first: case.first,
-        second: b"shutdown\n",
-        held: case.held,
-        fails: case.fails,
-    };
-    let marks = Marks::new();
-    let holds = Holds::new(plan, &marks);
-    let world = devices(rt, plan, &holds, &marks)?;
-    let Ran { status, world } = exabgp_run(rt, rt.alloc(), &["run", TWO], world);
-    let why = case.why;
-    assert!(rt; !marks.was_missed(), "{why}: somebody waits in vain");
-    assert_eq!(rt; status, Status::Ok, "{why}");
-    assert_eq!(rt; faults(&world), case.faults, "{why}");
-    assert_eq!(rt; took(&world, 0).unwrap_or(&[]), case.replies, "{why}");
-    assert_eq!(rt;
-        took(&world, 1).unwrap_or(&[]),
-        b"done\n".as_slice(),
-        "{why}"
-    );
-    for (link, (letters, count)) in case.said.iter().enumerate() {
-        let all = messages(rt.alloc(), letters)?;
-        assert_eq!(rt; said(&world, link), all.get(..*count), "{why}");
-    }
-    assert!(rt; said(&world, case.said.len()).is_none(), "{why}");
-    Ok(())
-}
-
-// How often the first helper and the neighbour failed.
-fn faults(world: &Devices<'_>) -> (u64, u64) {
+/// How often the first helper and the neighbour failed.
+pub fn faults(world: &Devices<'_>) -> (u64, u64) {
     let helper = world.helpers.first().map_or(0, |helper| helper.faults());
     let neighbor = world.peers.first().map_or(0, |peer| peer.faults());
     (helper, neighbor)
@@ -215,6 +196,20 @@ pub fn took<'w>(world: &'w Devices<'_>, h: usize) -> Option<&'w [u8]> {
     let helper = world.helpers.get(h)?;
     let pipes = helper.ended()?.first()?;
     pipes.sink.bytes()
+}
+
+/// Whether the links took so many bytes of the messages of these letters.
+pub fn have_taken(
+    alloc: Global,
+    world: &Devices<'_>,
+    wanted: &[(&'static str, usize)],
+) -> Result<bool, Fail> {
+    for (link, (letters, count)) in wanted.iter().enumerate() {
+        if said(world, link) != messages(alloc, letters)?.get(..*count) {
+            return Ok(false);
+        }
+    }
+    Ok(said(world, wanted.len()).is_none())
 }
 
 // What a link took, where it was opened and has ended.
