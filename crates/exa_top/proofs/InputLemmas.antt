@@ -56,7 +56,8 @@ pub told_more : (held next : Cutting) (source source' source'' : SourceSeen) (si
     → GavePiece source' source'' piece → PieceTold piece held next sink' sink'' status.Ok
     → count' ≡ count + length piece → ToldSoFar next source source'' sink sink'' count'
 told_more held next source source' source'' sink sink' sink'' piece count count' was gave one is =
-    let both = parsing_more was.bytes piece was.told.text one.text held next was.told.parsing was.cut one.put one.none in
+    let both =
+    parsing_more was.bytes piece was.told.text one.text held next was.told.parsing was.cut one.put one.none in
     record {
       bytes = was.bytes ++ piece;
       given = grows_more source.given source'.given source''.given was.bytes piece was.given gave.given;
@@ -75,8 +76,8 @@ told_more held next source source' source'' sink sink' sink'' piece count count'
     }
 
 -- a piece was read whose lines weren't all told
-abbrev so_far : (held : Cutting) (source source' source'' : SourceSeen) (sink sink' : SinkSeen) (piece : List ℕ) (count : ℕ)
-    → ToldSoFar held source source' sink sink' count → GavePiece source' source'' piece
+abbrev so_far : (held : Cutting) (source source' source'' : SourceSeen) (sink sink' : SinkSeen) (piece : List ℕ)
+    (count : ℕ) → ToldSoFar held source source' sink sink' count → GavePiece source' source'' piece
     → count + length piece ≤ input_limit → length piece ≤ read_limit → ParsedSoFar piece source source'' sink sink'
 so_far held source source' source'' sink sink' piece count was gave short few = record {
   bytes = was.bytes;
@@ -110,7 +111,8 @@ part_told held next source source' source'' sink sink' sink'' piece count was ga
           };
       few = few;
       text = was.told.text ++ one.text;
-      parsing = (parsing_more was.bytes piece was.told.text one.text held next was.told.parsing was.cut one.put one.none).0;
+      parsing =
+          (parsing_more was.bytes piece was.told.text one.text held next was.told.parsing was.cut one.put one.none).0;
       taken = (
         was.told.text ++ part,
         rest,
@@ -125,12 +127,9 @@ pub piece_stopped : (held next : Cutting) (source source' source'' : SourceSeen)
     → GavePiece source' source'' piece → count + length piece < input_limit → length piece ≤ read_limit
     → TellsPiece piece held next sink' sink'' (Err ends) → Parses source source'' sink sink'' ends
 piece_stopped held next source source' source'' sink sink' sink'' piece count status.NoMemory was gave short few tells =
-    (
-      (
-        piece,
-        subst (λ (now : SinkSeen). ParsedSoFar piece source source'' sink now) (sym tells)
-        (so_far held source source' source'' sink sink' piece count was gave (omega (arith, short)) few),
-      ),
+    let before = so_far held source source' source'' sink sink' piece count was gave (omega (arith, short)) few in
+    let same = sym tells in (
+      (piece, subst (λ (now : SinkSeen). ParsedSoFar piece source source'' sink now) same before),
       gave.unfailed ∙ was.unfailed,
     )
 piece_stopped held next source source' source'' sink sink' sink'' piece count status.WriteFault was gave short few tells

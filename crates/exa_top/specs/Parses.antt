@@ -43,8 +43,8 @@ pub record ParsedWhole (source source' : SourceSeen) (sink sink' : SinkSeen) : T
   pub read : ReadToEnd source source' bytes
   pub told : AreTold bytes sink sink'
 
--- Before the last read all lines that had ended were told: so what a line gives is written before more is read. The last
--- bytes are what that read gave.
+-- Before the last read all lines that had ended were told: so what a line gives is written before more is read. The
+-- last bytes are what that read gave.
 pub record ParsedSoFar (last : List ℕ) (source source' : SourceSeen) (sink sink' : SinkSeen) : Type 0 where
   pub bytes : List ℕ
   pub few : length last ≤ read_limit

@@ -44,7 +44,8 @@ pub fn parse<S: Source, K: Sink>(alloc: Global, input: &mut S, output: &mut K) -
                 if count == MAX_INPUT {
                     return Status::InputLong;
                 }
-                if let Err(status) = tell_piece(alloc, &mut cutter, &mut text, &buffer[..got], output) {
+                let piece = &buffer[..got];
+                if let Err(status) = tell_piece(alloc, &mut cutter, &mut text, piece, output) {
                     return status;
                 }
             }

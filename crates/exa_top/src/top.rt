@@ -82,8 +82,8 @@ const HELP: &[u8] = b"usage: exabgpd encode CONFIG\n\
 /// before it reads on. `ScriptRefused` says the first line that is in no production.
 /// `load COUNT` reads no input. It opens the engine with one neighbour and one process, enters lines that announce so
 /// many routes and then withdraw each second one, and writes nine counts of what came of it.
-/// `parse` reads its input to the end as command lines. It writes for each line, before it reads on, one line: `ok`, its
-/// first fault as `error token PLACE`, `error many PLACE LIMIT` or `error long`, or `error memory`.
+/// `parse` reads its input to the end as command lines. It writes for each line, before it reads on, one line: `ok`,
+/// its first fault as `error token PLACE`, `error many PLACE LIMIT` or `error long`, or `error memory`.
 /// `decode CAP ..` reads its input to the end as UPDATE messages in hexadecimal, one a line, of a session with these
 /// capabilities. It writes for each line, as it comes, the command lines that say the same, or `# refused`, the line's
 /// number and its first fault. Blank lines and replies are passed over, and counted.
