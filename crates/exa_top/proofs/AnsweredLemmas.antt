@@ -1,6 +1,6 @@
 -- What a command that was run shows of its devices, by how it ended.
 use Rattle.std.proofs.Common.{ℕ, ◌≡◌, ◌<◌, List, [], ◌++◌, length, Option, Some, None, refl, sym}
-use Rattle.std.proofs.Common.{ap, subst, arith, append-nil, length-append, inl, inr}
+use Rattle.std.proofs.Common.{ap, subst, arith, append-nil, length-append, inr}
 use Rattle.outside.specs.Seen.{SourceSeen, SinkSeen}
 use Rattle.outside.specs.Told.{Grows}
 use Rattle.script_grammar.specs.Scripts.{script_lines}

@@ -1,18 +1,17 @@
 -- An input that is read piece by piece, and whose lines are told as they come.
-use Rattle.std.proofs.Common.{ℕ, ◌≡◌, ◌+◌, ◌<◌, ◌≤◌, List, [], ◌++◌, length, Option, None, Err}
+use Rattle.std.proofs.Common.{ℕ, ◌≡◌, ◌+◌, ◌<◌, ◌≤◌, List, [], ◌++◌, length, Option, Err}
 use Rattle.std.proofs.Common.{sym, ◌∙◌, refl, subst, arith, append_assoc, append-nil, length-append, ap}
 use Rattle.outside.specs.Seen.{SourceSeen, SinkSeen}
 use Rattle.outside.specs.Told.{CountsOne, Grows, Shrinks}
 use Rattle.outside.proofs.ToldLemmas.{grows_more, shrinks_more}
 use Rattle.text_forms.specs.Lines.{lines}
 use Rattle.line_cutter.specs.Chunking.{HasCut}
-use Rattle.line_cutter.specs.Cutting.{Cutting, fresh, standing}
+use Rattle.line_cutter.specs.Cutting.{Cutting, fresh}
 use Rattle.line_cutter.proofs.ChunkingLemmas.{cut_begins}
 use Rattle.script_play.specs.Streams.{read_limit}
 use Rattle.script_play.specs.declared.status.Status.{Status}
 use Rattle.script_play.specs.declared.status.Status.TheVariants as status
 use Rattle.script_play.proofs.StreamLemmas.{GavePiece, MetEnd, all_left, left_from, none_gave, shrinks_none}
-use Rattle.exa_top.specs.Parsing.{IsParsing}
 use Rattle.exa_top.specs.Parses.{AreTold, ParsedPart, ParsedSoFar, Parses, PieceTold, TellsPiece}
 use Rattle.exa_top.specs.Top.{ReadPart, input_limit}
 use Rattle.exa_top.proofs.AnsweredLemmas.{grows_none}

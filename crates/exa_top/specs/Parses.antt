@@ -1,5 +1,5 @@
 -- What `parse` leaves, by its status: how much it read, and how much it wrote of what that gives.
-use Rattle.std.specs.Prelude.{ℕ, ◌≡◌, ◌<◌, ◌≤◌, ⊤, List, [], ◌++◌, length, Option, None, Result, Ok, Err}
+use Rattle.std.specs.Prelude.{ℕ, ◌≡◌, ◌<◌, ◌≤◌, ⊤, List, [], ◌++◌, length, None, Result, Ok, Err}
 use Rattle.outside.specs.Seen.{SourceSeen, SinkSeen}
 use Rattle.outside.specs.Told.{CountsOne, Grows}
 use Rattle.line_cutter.specs.Cutting.{Cutting, standing}

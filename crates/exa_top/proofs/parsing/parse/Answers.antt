@@ -1,4 +1,4 @@
-use Rattle.std.proofs.Common.{◌<◌, ◌+◌, ◌-◌, ◌++◌, ap, drop, length, take, refl, arith}
+use Rattle.std.proofs.Common.{◌<◌, ◌+◌, ◌++◌, ap, drop, length, take, refl, arith}
 use Rattle.line_cutter.specs.Cutting.{standing}
 use Rattle.script_play.proofs.StreamLemmas.{buffer_stays, got_few, got_length, got_piece, got_within}
 use Rattle.exa_top.specs.Top.{input_limit}
