@@ -1,6 +1,6 @@
 use Rattle.daemon.proofs.MakingLemmas.{pair_helpers_moves}
 use Rattle.daemon.proofs.StepLemmas.{slot_added}
-use Rattle.daemon.proofs.making.add_slot.Goals as goal
+use Rattle.daemon.proofs.pairs.add_slot.Goals as goal
 
 pub returns-clause-moves : goal.returns-clause-moves
 returns-clause-moves g c =

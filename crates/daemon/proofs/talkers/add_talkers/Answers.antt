@@ -1,7 +1,7 @@
 use Rattle.std.proofs.Common.{◌∙◌, refl, arith}
 use Rattle.daemon.proofs.LaysLemmas.{peers_none, peers_on}
 use Rattle.daemon.proofs.StepLemmas.{space_stays}
-use Rattle.daemon.proofs.making.add_talkers.Goals as goal
+use Rattle.daemon.proofs.talkers.add_talkers.Goals as goal
 
 pub slots-init : goal.slots-init
 slots-init g c = record { moves = peers_none _ _; never_more = omega arith; space = refl }

@@ -1,6 +1,6 @@
 use Rattle.daemon.proofs.MakingLemmas.{talker_peers_moves}
 use Rattle.daemon.proofs.StepLemmas.{talker_added}
-use Rattle.daemon.proofs.making.add_talker.Goals as goal
+use Rattle.daemon.proofs.talkers.add_talker.Goals as goal
 
 pub returns-clause-moves : goal.returns-clause-moves
 returns-clause-moves g c =

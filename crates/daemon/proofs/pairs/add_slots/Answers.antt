@@ -1,7 +1,7 @@
 use Rattle.std.proofs.Common.{◌∙◌, refl, arith}
 use Rattle.daemon.proofs.LaysLemmas.{helpers_none, helpers_on}
 use Rattle.daemon.proofs.StepLemmas.{space_stays}
-use Rattle.daemon.proofs.making.add_slots.Goals as goal
+use Rattle.daemon.proofs.pairs.add_slots.Goals as goal
 
 pub slots-init : goal.slots-init
 slots-init g c = record { moves = helpers_none _ _ _; never_more = omega arith; space = refl }
