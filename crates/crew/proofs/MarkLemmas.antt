@@ -1,5 +1,7 @@
 -- Jobs that are marked one after the other.
-use Rattle.std.proofs.Common.{ℕ, ◌≡◌, ◌<◌, ◌+◌, ◌++◌, ◌&&◌, ◌==◌, ◌≤◌, if◌then◌else◌, ◌∙◌, not, Bool, true, false, List, ◌∷◌, length, get_or, set, take, drop, suc, refl, sym, ap, ap₂, append-nil, arith, add-one, below_more, lt-suc_self, le_of_eq, le_trans}
+use Rattle.std.proofs.Common.{ℕ, ◌≡◌, ◌<◌, ◌+◌, ◌++◌, ◌&&◌, ◌==◌, ◌≤◌, if◌then◌else◌, ◌∙◌, not, Bool, true, false, List}
+use Rattle.std.proofs.Common.{◌∷◌, length, get_or, set, take, drop, suc, refl, sym, ap, ap₂, append-nil, arith, add-one}
+use Rattle.std.proofs.Common.{below_more, lt-suc_self, le_of_eq, le_trans}
 use Rattle.std.specs.List.{list_any}
 use Rattle.std.proofs.Math.Seq.{append_snoc, drop-cons, drop-length, drop-set-lt, take-length, take-suc-set}
 use Rattle.outside.specs.Refusals.{Refusals, is_refused}
@@ -17,7 +19,8 @@ module _ {W : Type 0} (plan : Refusals) where
       → refused ≡ is_refused plan k
       → take k places ++ marked plan k (drop k places)
       ≡ take (k + 1) (set places k (record { worker = (get_or places k place).worker; refused = refused }))
-      ++ marked plan (k + 1) (drop (k + 1) (set places k (record { worker = (get_or places k place).worker; refused = refused })))
+      ++ marked plan (k + 1) (drop (k + 1) (set places k (record { worker =
+          (get_or places k place).worker; refused = refused })))
   marked_more places k place refused lt is =
       let x : Place W = record { worker = (get_or places k place).worker; refused = refused } in
       let behind = marked plan (suc k) (drop (suc k) places) in
@@ -71,6 +74,7 @@ pub rose_more : (plan was now : Refusals) (job : ℕ) (all refused : Bool) → r
     → was.faults ≤ now.faults → (all ≡ true → was ≡ plan) → (all ≡ false → Rose plan.faults was.faults)
     → all && not refused ≡ false → Rose plan.faults now.faults
 rose_more plan was now job true true is told later same before none =
-    le_of_eq (ap (λ it. counted it.faults) (sym (same refl)) ∙ ap (λ it. it.faults) (sym (asked plan was now job true is told)))
+    le_of_eq (ap (λ it. counted it.faults) (sym (same refl)) ∙ ap (λ it. it.faults) (sym
+        (asked plan was now job true is told)))
 rose_more plan was now job true false is told later same before none = cc
 rose_more plan was now job false refused is told later same before none = le_trans (before refl) later

@@ -1,5 +1,7 @@
 -- Jobs that became others, each in its place.
-use Rattle.std.proofs.Common.{ℕ, ◌≡◌, ◌++◌, ◌∙◌, Bool, true, false, refl, List, [], ◌∷◌, length, take, drop, suc, sym, ap, subst, suc-le-suc, zero-lt-suc, append-nil, drop_of_length-le, take_all, le_of_eq, arith}
+use Rattle.std.proofs.Common.{ℕ, ◌≡◌, ◌++◌, ◌∙◌, Bool, true, false, refl, List, [], ◌∷◌, length, take, drop, suc, sym}
+use Rattle.std.proofs.Common.{ap, subst, suc-le-suc, zero-lt-suc, append-nil, drop_of_length-le, take_all, le_of_eq}
+use Rattle.std.proofs.Common.{arith}
 use Rattle.std.specs.List.{AllZip}
 use Rattle.std.specs.declared.option.Option.{Option}
 use Rattle.book_gate.specs.declared.name.GateName.{Ghosts as NameGhosts}
@@ -62,6 +64,7 @@ module _ {F S D E C P N O K L : Type 0} {s : SpawnerGhosts S O K L} {o : SourceG
       go plan i [] (new ∷ news) all = absurd all
       go plan i (old ∷ olds) [] all = absurd all
       go plan i (old ∷ olds) (new ∷ news) all = (
-        goes_by content faults lent spawning dialling moments (is_refused plan i) (job_of old.worker) (job_of new.worker) all.0.runs all.0.off,
+        goes_by content faults lent spawning dialling moments (is_refused plan i) (job_of old.worker)
+            (job_of new.worker) all.0.runs all.0.off,
         go plan (suc i) olds news all.1,
       )

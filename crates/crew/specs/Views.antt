@@ -10,7 +10,8 @@ use Rattle.crew.specs.declared.place.Place.{Place}
 use Rattle.crew.specs.declared.worker.Worker.{Worker}
 use Rattle.crew.specs.declared.worker.Worker.TheVariants as worker
 
-module _ {F S D E C P N O K L : Type 0} {s : SpawnerGhosts S O K L} {o : SourceGhosts O} {k : SinkGhosts K} {n : NameGhosts N}
+module _ {F S D E C P N O K L : Type 0} {s : SpawnerGhosts S O K L} {o : SourceGhosts O} {k : SinkGhosts K} {n :
+    NameGhosts N}
   where
     -- what a worker is
     abbrev pub job_of : Worker F S D E C P N O K L s o k n → Job F S D E C

@@ -101,8 +101,8 @@ fn end_all<
 
 /// Does each job, all beside each other, and returns once all have ended.
 ///
-/// The plan is asked once for each job, in order and counted from 0. The jobs that it refuses are called off, beside the
-/// others, which ends the daemon; each counts one fault of the plan.
+/// The plan is asked once for each job, in order and counted from 0. The jobs that it refuses are called off, beside
+/// the others, which ends the daemon; each counts one fault of the plan.
 pub fn work<
     'g,
     R: Threads + Wait + Sync,

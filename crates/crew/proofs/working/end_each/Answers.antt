@@ -6,7 +6,8 @@ use Rattle.crew.specs.Crews.{Ends}
 use Rattle.crew.proofs.working.end_each.Goals as goal
 
 pub for_each_mut-requires-clause-accepts : goal.for_each_mut-requires-clause-accepts
-for_each_mut-requires-clause-accepts g c = let bounds = c.type_bounds in λ names met i p lt is. search (rules, sendable, bounds)
+for_each_mut-requires-clause-accepts g c = let bounds = c.type_bounds in
+    λ names met i p lt is. search (rules, sendable, bounds)
 
 pub returns-then-count-gt0 : goal.returns-then-count-gt0
 returns-then-count-gt0 g c =
@@ -17,4 +18,5 @@ returns-then-count-gt0 g c =
     subst₂
     (Ends files.content files.faults files.lent
     (λ it. told_by (spawner.children it) (spawner.asked it) (spawner.failed it))
-    (λ it. told (dialer.links it) (dialer.asked it) (dialer.failed it)) g.C.Clock.moments) left.argument_is left.left left.call
+    (λ it. told (dialer.links it) (dialer.asked it)
+        (dialer.failed it)) g.C.Clock.moments) left.argument_is left.left left.call
