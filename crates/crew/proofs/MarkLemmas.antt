@@ -22,8 +22,8 @@ module _ {W : Type 0} (plan : Refusals) where
       let x : Place W = record { worker = (get_or places k place).worker; refused = refused } in
       let behind = marked plan (suc k) (drop (suc k) places) in
       let at : marked plan k (drop k places) ≡ x ∷ behind =
-          ap (marked plan k) (drop-cons places k place lt)
-          ∙ ap (λ r. record { worker = (get_or places k place).worker; refused = r } ∷ behind) (sym is) in
+      ap (marked plan k) (drop-cons places k place lt)
+      ∙ ap (λ r. record { worker = (get_or places k place).worker; refused = r } ∷ behind) (sym is) in
       ap (λ rest. take k places ++ rest) at ∙ sym (append_snoc (take k places) x behind)
       ∙ ap₂ (λ front rest. front ++ marked plan (suc k) rest) (sym (take-suc-set places k x lt))
       (sym (drop-set-lt (suc k) places k x (lt-suc_self k)))
@@ -52,14 +52,14 @@ one_more plan k true false is before now = cc
 one_more plan k false refused is before now = let h = before refl in (h.0, omega (arith, h.1), h.2)
 
 module _ (plan was now : Refusals) (job : ℕ) (refused : Bool) (is : refused ≡ is_refused was job)
-    (told : now ≡ record was { faults = if is_refused was job then counted was.faults else was.faults; }) where
+    (told : now ≡ record was { faults = if is_refused was job then counted was.faults else was.faults }) where
   -- by what was asked, the plan is as before, or it counts one more
-  asked : now ≡ record was { faults = if refused then counted was.faults else was.faults; }
-  asked = told ∙ ap (λ r. record was { faults = if r then counted was.faults else was.faults; }) (sym is)
+  asked : now ≡ record was { faults = if refused then counted was.faults else was.faults }
+  asked = told ∙ ap (λ r. record was { faults = if r then counted was.faults else was.faults }) (sym is)
 
 -- a plan that has refused nothing so far is as it was
 pub same_more : (plan was now : Refusals) (job : ℕ) (all refused : Bool) → refused ≡ is_refused was job
-    → now ≡ record was { faults = if is_refused was job then counted was.faults else was.faults; }
+    → now ≡ record was { faults = if is_refused was job then counted was.faults else was.faults }
     → (all ≡ true → was ≡ plan) → all && not refused ≡ true → now ≡ plan
 same_more plan was now job true false is told before all = asked plan was now job false is told ∙ before refl
 same_more plan was now job true true is told before all = cc
@@ -67,7 +67,7 @@ same_more plan was now job false refused is told before all = cc
 
 -- the count of one that has refused a job has risen
 pub rose_more : (plan was now : Refusals) (job : ℕ) (all refused : Bool) → refused ≡ is_refused was job
-    → now ≡ record was { faults = if is_refused was job then counted was.faults else was.faults; }
+    → now ≡ record was { faults = if is_refused was job then counted was.faults else was.faults }
     → was.faults ≤ now.faults → (all ≡ true → was ≡ plan) → (all ≡ false → Rose plan.faults was.faults)
     → all && not refused ≡ false → Rose plan.faults now.faults
 rose_more plan was now job true true is told later same before none =

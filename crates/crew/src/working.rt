@@ -61,7 +61,17 @@ fn end_each<
 {
     let count = places.len();
     if count > 0 {
-        thread::for_each_mut(rt, places, count, &|_, place| end(rt, place));
+        thread::for_each_mut(
+            rt,
+            places,
+            count,
+            &|_: usize, place: &mut Place<Worker<'_, F, S, D, E, C, P, N>>|
+                ensures { Ends F.content F.faults F.lent
+                    (λ spawner. told_by (S.children spawner) (S.asked spawner) (S.failed spawner))
+                    (λ dialer. told (D.links dialer) (D.asked dialer) (D.failed dialer))
+                    C.moments place.old place.new }
+            { end(rt, place) },
+        );
     }
 }
 

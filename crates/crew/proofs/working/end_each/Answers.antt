@@ -14,9 +14,7 @@ returns-then-count-gt0 g c =
     let spawner = g.S.Spawner in
     let dialer = g.D.Dialer in
     λ i d lt. let left = (c.for_each_mut.ensures i d lt).1 in
-    let held = left.call in
     subst₂
     (Ends files.content files.faults files.lent
     (λ it. told_by (spawner.children it) (spawner.asked it) (spawner.failed it))
-    (λ it. told (dialer.links it) (dialer.asked it) (dialer.failed it)) g.C.Clock.moments) left.argument_is left.left
-    (search (rules, held))
+    (λ it. told (dialer.links it) (dialer.asked it) (dialer.failed it)) g.C.Clock.moments) left.argument_is left.left left.call
