@@ -1,5 +1,5 @@
 -- The first of jobs that goes back into a stock, by its kind.
-use Rattle.std.proofs.Common.{ℕ, ◌≡◌, ◌+◌, ◌<◌, List, [], ◌∷◌, length, ap, sym, subst, ◌∙◌}
+use Rattle.std.proofs.Common.{ℕ, ◌≡◌, ◌+◌, ◌<◌, List, [], ◌∷◌, ◌++◌, length, ap, sym, subst, ◌∙◌}
 use Rattle.std.specs.Vec.{vec_capacity}
 use Rattle.config_model.specs.Sections.{Sections}
 use Rattle.config_model.specs.declared.slots.Slots.{Slots}
@@ -12,6 +12,32 @@ use Rattle.daemon.specs.Laid.{AreWhole, Gains, HasRoom, files_of}
 use Rattle.daemon.specs.Making.{IsReplierFirst, PairMore, PassMore, Returns, SameRoom, TalkerMore}
 use Rattle.daemon.proofs.ApartLemmas.{keeper_files, keeper_fits, keeper_last, keeper_returns, some_left}
 use Rattle.daemon.proofs.ApartLemmas.{pair_fits, pair_returns, replier_next, talker_fits, talker_returns}
+
+module _ {S D E : Type 0} (old new : Stock S D E) where
+  -- what is the same is put back
+  pub talker_more : (dialer given : D) (ear heard : E) (pass other : Known Sections Entry)
+      → (dialer ≡ given) × (ear ≡ heard) × (pass ≡ other) → TalkerMore old dialer ear pass new
+      → TalkerMore old given heard other new
+  talker_more dialer given ear heard pass other (is, hears, passes) more =
+      record {
+        same_helpers = more.same_helpers;
+        one_peer = more.one_peer ∙ ap (λ (one : D). old.peers.items ++ one ∷ []) is;
+        one_ear = more.one_ear ∙ ap (λ (one : E). old.ears.items ++ one ∷ []) hears;
+        one_pass = more.one_pass ∙ ap (λ (one : Known Sections Entry). old.passes.items ++ one ∷ []) passes;
+      }
+
+  pub pair_more : (spawner given : S) (reading read writing wrote : Known Sections Entry) → spawner ≡ given
+      → (reading ≡ read) × (writing ≡ wrote) → PairMore old spawner reading writing new
+      → PairMore old given read wrote new
+  pair_more spawner given reading read writing wrote is (reads, writes) more =
+      record {
+        one_helper = more.one_helper ∙ ap (λ (one : S). old.helpers.items ++ one ∷ []) is;
+        same_peers = more.same_peers;
+        same_ears = more.same_ears;
+        two_passes = more.two_passes
+            ∙ (ap (λ (one : Known Sections Entry). old.passes.items ++ one ∷ writing ∷ []) reads
+            ∙ ap (λ (one : Known Sections Entry). old.passes.items ++ read ∷ one ∷ []) writes);
+      }
 
 module _ {F S D E C : Type 0} (old new : Stock S D E) (all jobs : List (Job F S D E C)) (whole : AreWhole all) where
   as_room : (others : List (Job F S D E C)) → all ≡ others → HasRoom old all → HasRoom old others
