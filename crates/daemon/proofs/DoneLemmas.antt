@@ -150,10 +150,12 @@ module _ {F S D E C : Type 0} (content : F → Option (List ℕ → List ℕ)) (
             subst (λ it. (dialers (it ∷ []) ≡ []) × (spawners (it ∷ []) ≡ [])
             × KeeperEnds (OfReader spawning moments refused clock) (OfReplier refused) (OfTalker dialling refused helpers)
             (KeeperDone content faults lent (refused (helpers + helpers + peers)) path slots files files') (laid.0 ∷ [])
-            (passes (it ∷ []))) (sym k.is)
-            (refl, refl,
-            subst (λ number. KeeperDone content faults lent (refused number) path slots files files' laid.0 k.later) at
-            (subst (λ it. KeeperDone content faults lent (refused i) path slots files it laid.0 k.later) its k.done))
+            (passes (it ∷ []))) (sym k.is) (
+              refl,
+              refl,
+              subst (λ number. KeeperDone content faults lent (refused number) path slots files files' laid.0 k.later) at
+                  (subst (λ it. KeeperDone content faults lent (refused i) path slots files it laid.0 k.later) its k.done),
+            )
         alone [] go back = absurd go
         alone (new ∷ other ∷ news) go back = absurd go.1
 
@@ -167,18 +169,20 @@ module _ {F S D E C : Type 0} (content : F → Option (List ℕ → List ℕ)) (
         (dialers news) given (passes news)
     talkers_end n i [] [] olds news given at count laid go back =
         let last : i ≡ helpers + helpers + peers = omega arith in
-        let k = keeper_ends i olds news given last laid go back in
-        (k.1, subst (λ it. TalkersEnd (OfReader spawning moments refused clock) (OfReplier refused)
-        (OfTalker dialling refused helpers)
-        (KeeperDone content faults lent (refused (helpers + helpers + peers)) path slots files files') n [] it given
-        (passes news)) (sym k.0) k.2)
+        let k = keeper_ends i olds news given last laid go back in (
+          k.1,
+          subst (λ it. TalkersEnd (OfReader spawning moments refused clock) (OfReplier refused)
+              (OfTalker dialling refused helpers)
+              (KeeperDone content faults lent (refused (helpers + helpers + peers)) path slots files files') n [] it given
+              (passes news)) (sym k.0) k.2,
+        )
     talkers_end n i (d ∷ ds) (e ∷ es) (old ∷ olds) (new ∷ news) (pass ∷ given) at count laid go back =
         let t = talker_ended (refused i) n d e pass new
-            (subst (λ it. Goes content faults lent spawning dialling moments (refused i) it new) laid.0 go.0) in
+        (subst (λ it. Goes content faults lent spawning dialling moments (refused i) it new) laid.0 go.0) in
         let next : suc i ≡ helpers + helpers + suc n = omega arith in
         let fewer : suc n + length ds ≡ peers = omega arith in
         let rest = talkers_end (suc n) (suc i) ds es olds news given next fewer laid.1 go.1
-            (subst (λ it. files_of (it ∷ news) ≡ files' ∷ []) t.is back) in
+        (subst (λ it. files_of (it ∷ news) ≡ files' ∷ []) t.is back) in
         subst (λ it. (spawners (it ∷ news) ≡ [])
         × TalkersEnd (OfReader spawning moments refused clock) (OfReplier refused) (OfTalker dialling refused helpers)
         (KeeperDone content faults lent (refused (helpers + helpers + peers)) path slots files files') n (d ∷ ds)
@@ -208,15 +212,15 @@ module _ {F S D E C : Type 0} (content : F → Option (List ℕ → List ℕ)) (
         h [] it given (passes news)) (sym t.0) t.1
     helpers_end ds es h i (s ∷ ss) (old ∷ other ∷ olds) (new ∷ next ∷ news) (pass ∷ behind ∷ given) at count many laid go back =
         let r = reader_ended (refused i) h s clock pass new
-            (subst (λ it. Goes content faults lent spawning dialling moments (refused i) it new) laid.0 go.0) in
+        (subst (λ it. Goes content faults lent spawning dialling moments (refused i) it new) laid.0 go.0) in
         let w = replier_ended (refused (suc i)) h behind next
-            (subst (λ it. Goes content faults lent spawning dialling moments (refused (suc i)) it next) laid.1 go.1.0) in
+        (subst (λ it. Goes content faults lent spawning dialling moments (refused (suc i)) it next) laid.1 go.1.0) in
         let after : suc i ≡ h + h + 1 = omega arith in
         let far : suc (suc i) ≡ suc h + suc h = omega arith in
         let fewer : suc h + length ss ≡ helpers = omega arith in
         let rest = helpers_end ds es (suc h) (suc (suc i)) ss olds news given far fewer many laid.2 go.1.1
-            (subst (λ it. files_of (it ∷ news) ≡ files' ∷ []) w.is
-            (subst (λ it. files_of (it ∷ next ∷ news) ≡ files' ∷ []) r.is back)) in
+        (subst (λ it. files_of (it ∷ news) ≡ files' ∷ []) w.is
+        (subst (λ it. files_of (it ∷ next ∷ news) ≡ files' ∷ []) r.is back)) in
         subst (λ it. HelpersEnd (OfReader spawning moments refused clock) (OfReplier refused)
         (OfTalker dialling refused helpers)
         (KeeperDone content faults lent (refused (helpers + helpers + peers)) path slots files files') ds
@@ -226,9 +230,11 @@ module _ {F S D E C : Type 0} (content : F → Option (List ℕ → List ℕ)) (
         (OfTalker dialling refused helpers)
         (KeeperDone content faults lent (refused (helpers + helpers + peers)) path slots files files') ds
         (dialers (it ∷ news)) h (s ∷ ss) (r.spawner' ∷ spawners (it ∷ news)) (pass ∷ behind ∷ given)
-        (r.later ∷ passes (it ∷ news))) (sym w.is)
-        (subst (λ number. ReaderDone spawning (refused number) h (moments clock) s r.spawner' pass r.later) at r.done,
-        subst (λ number. ReplierDone (refused number) h behind w.later) after w.done, rest))
+        (r.later ∷ passes (it ∷ news))) (sym w.is) (
+          subst (λ number. ReaderDone spawning (refused number) h (moments clock) s r.spawner' pass r.later) at r.done,
+          subst (λ number. ReplierDone (refused number) h behind w.later) after w.done,
+          rest,
+        ))
     helpers_end ds es h i (s ∷ ss) [] news given at count many laid go back = absurd laid
     helpers_end ds es h i (s ∷ ss) (old ∷ []) news given at count many laid go back = absurd laid
     helpers_end ds es h i (s ∷ ss) (old ∷ other ∷ olds) news [] at count many laid go back = absurd laid
@@ -266,18 +272,24 @@ module _ {F S D E C : Type 0} (content : F → Option (List ℕ → List ℕ)) (
     where
       R : ℕ → S → S → Pass → Pass → Type 0
       R = OfReader spawning moments refused clock
+
       W : ℕ → Pass → Pass → Type 0
       W = OfReplier refused
+
       T : ℕ → D → D → Pass → Pass → Type 0
       T = OfTalker dialling refused slots.helpers
+
       K : Pass → Pass → Type 0
       K = KeeperDone content faults lent (refused (slots.helpers + slots.helpers + slots.peers)) path slots files files'
+
       ends : HelpersEnd R W T K ds (dialers news) 0 ss (spawners news) given (passes news)
       ends =
           helpers_end refused clock path slots slots.helpers slots.peers files files' ds es 0 0 ss olds news given refl
           (zero-add (length ss) ∙ sym many) (sym few) laid go back
+
       tail : TalkersEnd R W T K 0 ds (dialers news) (drop (length ss + length ss) given) (drop (length ss + length ss) (passes news))
       tail = behind_helpers R W T K ds (dialers news) 0 ss (spawners news) given (passes news) ends
+
       dropped : (all : List Pass) (i : ℕ) (q : Pass)
           → get_or (drop (length ss + length ss) all) i q ≡ get_or all (slots.helpers + slots.helpers + i) q
       dropped all i q = get_or-drop (length ss + length ss) all i q ∙ ap (λ k. get_or all (k + k + i) q) (sym many)

@@ -87,7 +87,7 @@ module _ {F S D E C : Type 0} (content : F → Option (List ℕ → List ℕ)) (
   talkers_whole n i [] [] olds news given laid go = keeper_whole i olds news given laid go
   talkers_whole n i (d ∷ ds) (e ∷ es) (old ∷ olds) (new ∷ news) (pass ∷ given) laid go =
       let t = talker_ended content faults lent spawning dialling moments (refused i) n d e pass new
-          (subst (λ it. Goes content faults lent spawning dialling moments (refused i) it new) laid.0 go.0) in
+      (subst (λ it. Goes content faults lent spawning dialling moments (refused i) it new) laid.0 go.0) in
       subst (λ it. AreWhole (it ∷ news)) (sym t.is) (talkers_whole (suc n) (suc i) ds es olds news given laid.1 go.1)
   talkers_whole n i [] (e ∷ es) olds news given laid go = absurd laid
   talkers_whole n i (d ∷ ds) [] olds news given laid go = absurd laid
@@ -102,9 +102,9 @@ module _ {F S D E C : Type 0} (content : F → Option (List ℕ → List ℕ)) (
   helpers_whole ds es h i [] olds news given laid go = talkers_whole 0 i ds es olds news given laid go
   helpers_whole ds es h i (s ∷ ss) (old ∷ other ∷ olds) (new ∷ next ∷ news) (pass ∷ behind ∷ given) laid go =
       let r = reader_ended content faults lent spawning dialling moments (refused i) h s clock pass new
-          (subst (λ it. Goes content faults lent spawning dialling moments (refused i) it new) laid.0 go.0) in
+      (subst (λ it. Goes content faults lent spawning dialling moments (refused i) it new) laid.0 go.0) in
       let w = replier_ended content faults lent spawning dialling moments (refused (suc i)) h behind next
-          (subst (λ it. Goes content faults lent spawning dialling moments (refused (suc i)) it next) laid.1 go.1.0) in
+      (subst (λ it. Goes content faults lent spawning dialling moments (refused (suc i)) it next) laid.1 go.1.0) in
       subst (λ it. AreWhole (it ∷ next ∷ news)) (sym r.is)
       (subst (λ it. AreWhole (Reads r.slot r.spawner' r.clock' r.later ∷ it ∷ news)) (sym w.is)
       (helpers_whole ds es (suc h) (suc (suc i)) ss olds news given laid.2 go.1.1))

@@ -84,10 +84,7 @@ fn put_next<
     C: Clock + Drop,
     P: Pause + Drop,
     N: GateName,
->(
-    places: &mut Vec<Place<Worker<'g, F, S, D, E, C, P, N>>>,
-    stock: &mut Stock<S, D, E>,
-) -> Option<F>
+>(places: &mut Vec<Place<Worker<'g, F, S, D, E, C, P, N>>>, stock: &mut Stock<S, D, E>) -> Option<F>
     requires whole { AreWhole (reverse (jobs_of places.old.items)) }
     requires room { HasRoom stock.old (reverse (jobs_of places.old.items)) }
     ensures files { IfSome result (λ files. files_of (reverse (jobs_of places.old.items))

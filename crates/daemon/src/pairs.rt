@@ -120,7 +120,16 @@ fn add_slot<'g, F, S: Spawner + Drop, D, E, C: Clock + Drop, P: Pause + Drop, N:
 }
 
 // The readers and repliers of all helper slots of a stock, in front of the other jobs.
-pub(crate) fn add_slots<'g, F, S: Spawner + Drop, D, E, C: Clock + Drop, P: Pause + Drop, N: GateName>(
+pub(crate) fn add_slots<
+    'g,
+    F,
+    S: Spawner + Drop,
+    D,
+    E,
+    C: Clock + Drop,
+    P: Pause + Drop,
+    N: GateName,
+>(
     alloc: Global,
     gate: &'g Gate<Book>,
     clock: C,
