@@ -10,7 +10,8 @@ pub fn ring_all<P: Pause>(pause: P, slots: Slots) {
 }
 
 /// Ends the waits of all other workers where the daemon ends. Those of the helper slots are closed, so that none waits
-/// on for a helper that doesn't read. Those of the neighbour slots aren't, since what they send last is still to arrive.
+/// on for a helper that doesn't read. Those of the neighbour slots aren't, since what they send last is still to
+/// arrive.
 pub fn end_waits<P: Pause>(pause: P, slots: Slots) {
     close_helpers(pause, slots.helpers);
     ring_neighbors(pause, slots.peers);

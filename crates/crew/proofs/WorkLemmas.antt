@@ -1,5 +1,7 @@
 -- Jobs that became others, each in its place.
-use Rattle.std.proofs.Common.{ℕ, ◌≡◌, ◌++◌, ◌∙◌, Bool, true, false, refl, List, [], ◌∷◌, length, take, drop, suc, sym, ap, subst, suc-le-suc, zero-lt-suc, append-nil, drop_of_length-le, take_all, le_of_eq, arith}
+use Rattle.std.proofs.Common.{ℕ, ◌≡◌, ◌++◌, ◌∙◌, Bool, true, false, refl, List, [], ◌∷◌, length, take, drop, suc, sym}
+use Rattle.std.proofs.Common.{ap, subst, suc-le-suc, zero-lt-suc, append-nil, drop_of_length-le, take_all, le_of_eq}
+use Rattle.std.proofs.Common.{arith}
 use Rattle.std.specs.List.{AllZip}
 use Rattle.std.specs.declared.option.Option.{Option}
 use Rattle.book_gate.specs.declared.name.GateName.{Ghosts as NameGhosts}
@@ -31,8 +33,8 @@ module _ {J : Type 0} (R : J → J → Type 0) where
   all_zip_back len old lent new all same count each =
       let as_long : length new ≡ length old = count ∙ ap length same in
       let back : take len (new ++ drop (length new) old) ≡ new =
-          ap (λ rest. take len (new ++ rest)) (drop_of_length-le old (le_of_eq (sym as_long)))
-          ∙ ap (take len) (append-nil new) ∙ take_all len new (le_of_eq (as_long ∙ sym all)) in
+      ap (λ rest. take len (new ++ rest)) (drop_of_length-le old (le_of_eq (sym as_long)))
+      ∙ ap (take len) (append-nil new) ∙ take_all len new (le_of_eq (as_long ∙ sym all)) in
       subst (AllZip R old) (sym back) (all_zip_each old new as_long (subst (λ it. EachBecame R it new) same each))
 
 module _ {F S D E C : Type 0} (content : F → Option (List ℕ → List ℕ)) (faults : F → ℕ) (lent : F → Option ℕ)
@@ -61,6 +63,8 @@ module _ {F S D E C P N O K L : Type 0} {s : SpawnerGhosts S O K L} {o : SourceG
       go plan i [] [] all = tt
       go plan i [] (new ∷ news) all = absurd all
       go plan i (old ∷ olds) [] all = absurd all
-      go plan i (old ∷ olds) (new ∷ news) all =
-          (goes_by content faults lent spawning dialling moments (is_refused plan i) (job_of old.worker) (job_of new.worker) all.0.runs all.0.off,
-          go plan (suc i) olds news all.1)
+      go plan i (old ∷ olds) (new ∷ news) all = (
+        goes_by content faults lent spawning dialling moments (is_refused plan i) (job_of old.worker)
+            (job_of new.worker) all.0.runs all.0.off,
+        go plan (suc i) olds news all.1,
+      )

@@ -61,7 +61,17 @@ fn end_each<
 {
     let count = places.len();
     if count > 0 {
-        thread::for_each_mut(rt, places, count, &|_, place| end(rt, place));
+        thread::for_each_mut(
+            rt,
+            places,
+            count,
+            &|_: usize, place: &mut Place<Worker<'_, F, S, D, E, C, P, N>>|
+                ensures { Ends F.content F.faults F.lent
+                    (λ spawner. told_by (S.children spawner) (S.asked spawner) (S.failed spawner))
+                    (λ dialer. told (D.links dialer) (D.asked dialer) (D.failed dialer))
+                    C.moments place.old place.new }
+            { end(rt, place) },
+        );
     }
 }
 
@@ -91,8 +101,8 @@ fn end_all<
 
 /// Does each job, all beside each other, and returns once all have ended.
 ///
-/// The plan is asked once for each job, in order and counted from 0. The jobs that it refuses are called off, beside the
-/// others, which ends the daemon; each counts one fault of the plan.
+/// The plan is asked once for each job, in order and counted from 0. The jobs that it refuses are called off, beside
+/// the others, which ends the daemon; each counts one fault of the plan.
 pub fn work<
     'g,
     R: Threads + Wait + Sync,

@@ -8,9 +8,11 @@
 mod apart;
 mod laws;
 mod making;
+mod pairs;
 mod run;
 mod running;
 mod stock;
+mod talkers;
 #[cfg(test)]
 mod tests;
 mod words;

@@ -255,13 +255,6 @@ pub record GaveLimit (limit : ℕ) (source source' : SourceSeen) : Type 0 where
   pub left : AreLeftFrom source.left limit
   pub unended : source'.ended ≡ source.ended
 
--- why a source is left before its end, as a status, and what its count of faults then shows
-abbrev pub IsLeft : SourceSeen → SourceSeen → Status → Type 0
-IsLeft source source' status.NoMemory = source'.faults ≡ source.faults
-IsLeft source source' status.ReadFault = CountsOne source.faults source'.faults
-IsLeft source source' status.InputLong = (source'.faults ≡ source.faults) × GaveLimit input_limit source source'
-IsLeft source source' _ = ⊥
-
 -- the bytes given are told, and have grown by so many or more
 abbrev pub GaveFrom : ℕ → Option (List ℕ) → Option (List ℕ) → Type 0
 GaveFrom limit None now = ⊥

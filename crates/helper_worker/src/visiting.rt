@@ -230,8 +230,8 @@ fn learn_back<K: Sink + Drop, L: Leash + Drop, N: GateName>(
     requires named { gate.now ≡ N.gate }
     requires gate { pass.old.gate ≡ gate.now }
     ensures makes { Makes pass.old [] pass.new }
-    ensures back { IsSinkBack (writer_of done.h) done.h done.inc (K.taken result.sink) (K.faults result.sink)
-        pass.new.seen }
+    ensures back { IsSinkBack (writer_of done.h) done.h done.inc (K.taken result.sink)
+        (K.faults result.sink) pass.new.seen }
 {
     let Return {
         sink,

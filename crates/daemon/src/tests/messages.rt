@@ -21,7 +21,7 @@ const OPEN: &[u8] = &[
 // RFC 4271, section 4.4.
 const KEEPALIVE: &[u8] = &[0x00, 0x13, 0x04];
 
-// The route of `ROUTE`.
+// The route 10.0.0.0/24 with the next hop 192.0.2.1.
 const UPDATE: &[u8] = &[
     0x00, 0x2f, 0x02, // length, type
     0x00, 0x00, 0x00, 0x14, // no withdrawn routes, and so many bytes of attributes
@@ -36,9 +36,6 @@ const END: &[u8] = &[0x00, 0x17, 0x02, 0x00, 0x00, 0x00, 0x00];
 
 // A NOTIFICATION of Cease, Administrative Shutdown (RFC 4486, section 4).
 const CEASE: &[u8] = &[0x00, 0x15, 0x03, 0x06, 0x02];
-
-// A NOTIFICATION of Hold Timer Expired (RFC 4271, section 6.5).
-const EXPIRED: &[u8] = &[0x00, 0x15, 0x03, 0x04, 0x00];
 
 /// What the neighbour says: an OPEN that offers IPv4 routes, and a KEEPALIVE.
 pub const THEIRS: &[u8] = &[
@@ -55,9 +52,6 @@ pub const THEIRS: &[u8] = &[
     0x00, 0x13, 0x04, // length, type
 ];
 
-/// A line of a helper, with a route for the neighbour.
-pub const ROUTE: &[u8] = b"announce route 10.0.0.0/24 next-hop 192.0.2.1\n";
-
 // The message of a letter, without its marker.
 fn message(letter: u8) -> &'static [u8] {
     match letter {
@@ -65,12 +59,11 @@ fn message(letter: u8) -> &'static [u8] {
         b'K' => KEEPALIVE,
         b'U' => UPDATE,
         b'E' => END,
-        b'C' => CEASE,
-        _ => EXPIRED,
+        _ => CEASE,
     }
 }
 
-/// The messages of these letters: `O` OPEN, `K` KEEPALIVE, `U` UPDATE, `E` End-of-RIB, `C` Cease, `X` Hold Timer Expired.
+/// The messages of these letters: `O` OPEN, `K` KEEPALIVE, `U` UPDATE, `E` End-of-RIB, `C` Cease.
 pub fn messages(alloc: Global, letters: &str) -> Result<Vec<u8>, Fail> {
     let mut bytes = Vec::new(alloc);
     for letter in letters.bytes() {

@@ -5,9 +5,9 @@ use Rattle.daemon.specs.Making.{Returns}
 use Rattle.daemon.proofs.apart.take_all_apart.Given as goal
 
 -- the first jobs went back
-abbrev pub invariant-loop-place : goal.invariant-loop-place
-invariant-loop-place g l =
+abbrev pub invariant-jobs : goal.invariant-jobs
+invariant-jobs g l =
     Returns l.initial.stock (reverse (jobs_of l.initial.places.items)) l.stock (reverse (jobs_of l.places.items))
 
-abbrev pub decreases-loop-place : goal.decreases-loop-place
-decreases-loop-place g l = length l.places.items
+abbrev pub decreases-jobs : goal.decreases-jobs
+decreases-jobs g l = length l.places.items

@@ -1,4 +1,0 @@
-pub mod Excerpts
-pub mod Limits
-pub mod Names
-pub mod Texts
