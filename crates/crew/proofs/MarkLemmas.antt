@@ -19,8 +19,11 @@ module _ {W : Type 0} (plan : Refusals) where
       → refused ≡ is_refused plan k
       → take k places ++ marked plan k (drop k places)
       ≡ take (k + 1) (set places k (record { worker = (get_or places k place).worker; refused = refused }))
-      ++ marked plan (k + 1) (drop (k + 1) (set places k (record { worker =
-          (get_or places k place).worker; refused = refused })))
+      ++ marked plan (k + 1) (drop (k + 1) (set places k (record {
+        worker =
+            (get_or places k place).worker;
+        refused = refused;
+      })))
   marked_more places k place refused lt is =
       let x : Place W = record { worker = (get_or places k place).worker; refused = refused } in
       let behind = marked plan (suc k) (drop (suc k) places) in
@@ -75,6 +78,6 @@ pub rose_more : (plan was now : Refusals) (job : ℕ) (all refused : Bool) → r
     → all && not refused ≡ false → Rose plan.faults now.faults
 rose_more plan was now job true true is told later same before none =
     le_of_eq (ap (λ it. counted it.faults) (sym (same refl)) ∙ ap (λ it. it.faults) (sym
-        (asked plan was now job true is told)))
+    (asked plan was now job true is told)))
 rose_more plan was now job true false is told later same before none = cc
 rose_more plan was now job false refused is told later same before none = le_trans (before refl) later

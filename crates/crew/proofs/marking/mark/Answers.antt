@@ -16,12 +16,12 @@ loop-i-preserved g c =
       all = none_more c.args.plan.now c.loop-i.i c.loop-i.all c.refuses-place.result is kept.all;
       same =
           same_more c.args.plan.now c.loop-i.plan c.refuses-place.new.self c.loop-i.i c.loop-i.all
-              c.refuses-place.result
+          c.refuses-place.result
           c.refuses-place.ensures.listed c.refuses-place.ensures.count kept.same;
       one = one_more c.args.plan.now c.loop-i.i c.loop-i.all c.refuses-place.result is kept.one;
       count =
           rose_more c.args.plan.now c.loop-i.plan c.refuses-place.new.self c.loop-i.i c.loop-i.all
-              c.refuses-place.result
+          c.refuses-place.result
           c.refuses-place.ensures.listed c.refuses-place.ensures.count c.refuses-place.ensures.later kept.same
-              kept.count;
+          kept.count;
     }

@@ -19,4 +19,4 @@ returns-then-count-gt0 g c =
     (Ends files.content files.faults files.lent
     (λ it. told_by (spawner.children it) (spawner.asked it) (spawner.failed it))
     (λ it. told (dialer.links it) (dialer.asked it)
-        (dialer.failed it)) g.C.Clock.moments) left.argument_is left.left left.call
+    (dialer.failed it)) g.C.Clock.moments) left.argument_is left.left left.call
