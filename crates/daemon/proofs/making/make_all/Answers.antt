@@ -1,3 +1,4 @@
+use Rattle.crew.specs.Views.{job_of}
 use Rattle.daemon.proofs.WholeLemmas.{left_ears, left_fresh, left_helpers, left_passes, left_peers}
 use Rattle.daemon.proofs.WholeLemmas.{all_back, all_files, all_laid, all_room, all_whole}
 use Rattle.daemon.proofs.making.make_all.Goals as goal
@@ -17,30 +18,42 @@ add_rest-rest-requires-clause-passes g c = λ places bounds. left_passes _ _ _ _
 pub add_rest-rest-requires-clause-fresh : goal.add_rest-rest-requires-clause-fresh
 add_rest-rest-requires-clause-fresh g c = λ places bounds. left_fresh _ _ _ _ _ _ c.in-Ok.ensures.kept _ c.requires.full
 
-pub take_all_apart-requires-after_bounds : goal.take_all_apart-requires-after_bounds
-take_all_apart-requires-after_bounds g c =
-    λ places bounds. record {
-      whole = all_whole _ _ _ _ _ _ _ _ _ _ c.turn_round.ensures c.in-Ok.ensures.kept c.add_rest-rest.ensures.moves;
-      room =
-          all_room _ _ _ _ _ _ _ _ _ _ c.turn_round.ensures c.in-Ok.ensures.kept c.add_rest-rest.ensures.moves
-          c.start_keeper.ensures.room;
-    }
+pub take_all_apart-requires-clause-whole : goal.take_all_apart-requires-clause-whole
+take_all_apart-requires-clause-whole g c κs within =
+    all_whole (λ place. job_of place.worker) c.args.files c.args.path.now c.args.slots c.args.stock.now
+    c.start_keeper.new.stock c.add_rest-rest.new.stock c.in-Ok.places.items c.add_rest-rest.new.places.items
+    c.turn_round.new.items.items c.turn_round.ensures c.in-Ok.ensures.kept c.add_rest-rest.ensures.moves
+
+pub take_all_apart-requires-clause-room : goal.take_all_apart-requires-clause-room
+take_all_apart-requires-clause-room g c κs within =
+    all_room (λ place. job_of place.worker) c.args.files c.args.path.now c.args.slots c.args.stock.now
+    c.start_keeper.new.stock c.add_rest-rest.new.stock c.in-Ok.places.items c.add_rest-rest.new.places.items
+    c.turn_round.new.items.items c.turn_round.ensures c.in-Ok.ensures.kept c.add_rest-rest.ensures.moves
+    c.start_keeper.ensures.room
 
 pub returns-in-Ok-rest-clause-laid : goal.returns-in-Ok-rest-clause-laid
 returns-in-Ok-rest-clause-laid g c =
-    all_laid _ _ _ _ _ _ _ _ _ _ c.turn_round.ensures c.in-Ok.ensures.kept _ c.in-Ok-rest.ensures.lays
+    all_laid (λ place. job_of place.worker) c.args.files c.args.path.now c.args.slots c.args.stock.now
+    c.start_keeper.new.stock c.add_rest-rest.new.stock c.in-Ok.places.items c.add_rest-rest.new.places.items
+    c.turn_round.new.items.items c.turn_round.ensures c.in-Ok.ensures.kept c.args.clock c.in-Ok-rest.ensures.lays
 
 pub returns-in-Ok-rest-clause-room : goal.returns-in-Ok-rest-clause-room
 returns-in-Ok-rest-clause-room g c =
-    all_room _ _ _ _ _ _ _ _ _ _ c.turn_round.ensures c.in-Ok.ensures.kept c.add_rest-rest.ensures.moves
+    all_room (λ place. job_of place.worker) c.args.files c.args.path.now c.args.slots c.args.stock.now
+    c.start_keeper.new.stock c.add_rest-rest.new.stock c.in-Ok.places.items c.add_rest-rest.new.places.items
+    c.turn_round.new.items.items c.turn_round.ensures c.in-Ok.ensures.kept c.add_rest-rest.ensures.moves
     c.start_keeper.ensures.room
 
 pub returns-in-Err-rest-clause-files : goal.returns-in-Err-rest-clause-files
 returns-in-Err-rest-clause-files g c =
-    all_files _ _ _ _ _ _ _ _ _ _ c.turn_round.ensures c.in-Ok.ensures.kept c.add_rest-rest.ensures.moves _
-    c.take_all_apart.ensures.files
+    all_files (λ place. job_of place.worker) c.args.files c.args.path.now c.args.slots c.args.stock.now
+    c.start_keeper.new.stock c.add_rest-rest.new.stock c.in-Ok.places.items c.add_rest-rest.new.places.items
+    c.turn_round.new.items.items c.turn_round.ensures c.in-Ok.ensures.kept c.add_rest-rest.ensures.moves
+    c.take_all_apart.result c.take_all_apart.ensures.files
 
 pub returns-in-Err-rest-clause-back : goal.returns-in-Err-rest-clause-back
 returns-in-Err-rest-clause-back g c =
-    all_back _ _ _ _ _ _ _ _ _ _ c.turn_round.ensures c.in-Ok.ensures.kept c.add_rest-rest.ensures.moves _
-    c.take_all_apart.ensures.back
+    all_back (λ place. job_of place.worker) c.args.files c.args.path.now c.args.slots c.args.stock.now
+    c.start_keeper.new.stock c.add_rest-rest.new.stock c.in-Ok.places.items c.add_rest-rest.new.places.items
+    c.turn_round.new.items.items c.turn_round.ensures c.in-Ok.ensures.kept c.add_rest-rest.ensures.moves
+    c.take_all_apart.new.stock c.take_all_apart.ensures.back
