@@ -1,5 +1,6 @@
 -- The passes that were split off a gate's first pass, made entries and were joined into it.
-use Rattle.std.proofs.Common.{◌≡◌, ◌⊎◌, ℕ, zero, suc, ◌+◌, ◌<◌, List, [], ◌∷◌, ◌++◌, map, length, refl, sym, ap, true, cond}
+use Rattle.std.proofs.Common.{◌≡◌, ◌⊎◌, ℕ, zero, suc, ◌+◌, ◌<◌, List, [], ◌∷◌, ◌++◌, map, length, refl, sym, ap, true}
+use Rattle.std.proofs.Common.{cond}
 use Rattle.std.proofs.Common.{◌∙◌, subst, inl, inr, ⊎_elim, arith, length-append, Some}
 use Rattle.std.specs.Prelude.{Contains, slice_index_or}
 use Rattle.std.proofs.lemmas.List.{get_or_append_left}
@@ -54,7 +55,8 @@ module _ {A E : Type 0} where
   each_child P pass holds zero k q below = absurd (omega arith)
   each_child P pass holds (suc count) k q below =
       ⊎_elim (λ (front : k < count).
-      subst (P k) (sym (get_or_append_left (children_of pass count) (last ∷ []) q k (omega (arith, count_children pass count))))
+      subst (P k) (sym (get_or_append_left (children_of pass count) (last ∷ []) q k (omega
+      (arith, count_children pass count))))
       (each_child P pass holds count k q front))
       (λ (is : count ≡ k). subst (λ n. P n (slice_index_or (children_of pass (suc count)) n q)) is
       (subst (P count) (sym at_last) (holds count room)))
@@ -70,7 +72,8 @@ module _ {A E : Type 0} where
       cases zero zero below = inr refl
       cases zero (suc k) below = absurd (omega arith)
       cases (suc count) zero below = inl (omega arith)
-      cases (suc count) (suc k) below = ⊎_elim (λ (b : k < count). inl (omega arith)) (λ (e : count ≡ k). inr (ap suc e))
+      cases (suc count) (suc k) below = ⊎_elim (λ (b : k < count). inl (omega arith)) (λ (e : count ≡ k). inr
+          (ap suc e))
           (cases count k (omega arith))
 
       at_last : slice_index_or (children_of pass (suc count)) count q ≡ last
@@ -96,7 +99,8 @@ module _ {A E : Type 0} where
       })
 
   -- a pass that made entries has its name, and gave out no more names and joined no more
-  pub still : (pass later : Known A E) (made : List E) → Makes pass made later → (later.name ≡ pass.name) × (later.split ≡ pass.split) × (later.joined ≡ pass.joined) × (later.gate ≡ pass.gate)
+  pub still : (pass later : Known A E) (made : List E) → Makes pass made later
+      → (later.name ≡ pass.name) × (later.split ≡ pass.split) × (later.joined ≡ pass.joined) × (later.gate ≡ pass.gate)
   still pass later made makes = (
     ap (λ (it : Known A E). it.name) makes.same,
     ap (λ (it : Known A E). it.split) makes.same,
@@ -124,7 +128,8 @@ module _ {A E : Type 0} where
       (λ (theirs : Contains other.joined name). absurd (contains_none name
       (subst (λ it. Contains it name) (none other (contains_here other others)) theirs)))
       (Contains-append_cases names other.joined name in_front))
-      (λ (last : Contains (other.name ∷ []) name). inr (other, contains_here other others, contains_one other.name name last))
+      (λ (last : Contains (other.name ∷ []) name). inr
+      (other, contains_here other others, contains_one other.name name last))
       (Contains-append_cases (names ++ other.joined) (other.name ∷ []) name front))
       (λ (rest : (one : Known A E) × Contains others one × (one.name ≡ name)).
       inr (rest.0, contains_there other others rest.0 rest.1, rest.2))
@@ -133,7 +138,8 @@ module _ {A E : Type 0} where
 
 module _ {E : Type 0} where
   -- an entry stands among those of its name
-  pub stands_by : (seen : List (Signed E)) (made : Signed E) → Contains seen made → Contains (entries_by made.name seen) made
+  pub stands_by : (seen : List (Signed E)) (made : Signed E) → Contains seen made
+      → Contains (entries_by made.name seen) made
   stands_by [] made has = absurd (contains_none made has)
   stands_by (first ∷ seen) made has =
       ⊎_elim (λ (is : first ≡ made). subst (λ (it : Signed E). Contains (entries_by it.name (first ∷ seen)) it) is
@@ -211,7 +217,8 @@ module _ {A E : Type 0} (law : A → List E → E → Type 0) (gate : TableId) (
   first_split = ap (λ (it : Known A E). it.split) many.becomes
       ∙ ap (λ (it : Known A E). it.split ++ child_names it.name it.next count) is
 
-  back_names : (name : List ℕ) → Contains later.split name → Contains (map (λ (other : Known A E). other.name) passes') name
+  back_names : (name : List ℕ) → Contains later.split name
+      → Contains (map (λ (other : Known A E). other.name) passes') name
   back_names name has =
       let found = given_name count name (subst (λ it. Contains it name) first_split has) in
       let below : found.0 < length passes' = omega (arith, found.1, were.0, news.count_is) in
@@ -258,8 +265,12 @@ module _ {A E : Type 0} (law : A → List E → E → Type 0) (gate : TableId) (
       → Makes (slice_index_or passes k q) made (slice_index_or passes' k q)
       → (entries (entries_by (child_name [] k) last.seen) ≡ made) × IsPrefix (slice_index_or passes' k q).seen last.seen
   made_by k q made below makes =
-      let goes = all.theirs (slice_index_or passes' k q) (contains_at passes' k q (omega (arith, below, were.0, news.count_is))) in
-      (left_by gate k (slice_index_or passes k q) (slice_index_or passes' k q) last made (news.each k q below) makes goes, goes.front)
+      let goes = all.theirs (slice_index_or passes' k q) (contains_at passes' k q (omega
+      (arith, below, were.0, news.count_is))) in (
+        left_by gate k (slice_index_or passes k q) (slice_index_or passes' k q) last made
+            (news.each k q below) makes goes,
+        goes.front,
+      )
 
   -- what is seen is legal
   pub all_legal : (from : A) × (last.start ≡ Some from) × Legal law from (entries last.seen)
@@ -271,7 +282,13 @@ module _ {A E : Type 0} (law : A → List E → E → Type 0) (gate : TableId) (
   )
     where
       none_behind : (before : List E) (entry : E) → IsPrefix (before ++ entry ∷ []) [] → ⊥
-      none_behind before entry front = omega (arith, ap length front.1, length-append (before ++ entry ∷ []) front.0, length-append before (entry ∷ []))
+      none_behind before entry front = omega (
+        arith,
+        ap length front.1,
+        length-append (before
+            ++ entry ∷ []) front.0,
+        length-append before (entry ∷ []),
+      )
 
   pub same_start : last.start ≡ Some start
   same_start = ap (λ (it : Known A E). it.start) all.becomes ∙ first_start

@@ -1,6 +1,8 @@
 -- What follows of the history of a run.
-use Rattle.std.proofs.Common.{◌≡◌, ◌⊎◌, ℕ, zero, suc, ◌+◌, ◌-◌, ◌^◌, ◌<◌, ◌≤◌, Bool, true, false, true≢false, ◌||◌, cond}
-use Rattle.std.proofs.Common.{List, [], ◌∷◌, ◌++◌, map, length, Option, Some, refl, sym, ap, subst, ◌∙◌, inl, inr, ⊎_elim, arith}
+use Rattle.std.proofs.Common.{◌≡◌, ◌⊎◌, ℕ, zero, suc, ◌+◌, ◌-◌, ◌^◌, ◌<◌, ◌≤◌, Bool, true, false, true≢false, ◌||◌}
+use Rattle.std.proofs.Common.{cond}
+use Rattle.std.proofs.Common.{List, [], ◌∷◌, ◌++◌, map, length, Option, Some, refl, sym, ap, subst, ◌∙◌, inl, inr}
+use Rattle.std.proofs.Common.{⊎_elim, arith}
 use Rattle.std.specs.Prelude.{Contains, min, reverse, slice_index_or, Ok, Err, if◌then◌else◌}
 use Rattle.std.specs.List.{flat_map, list_any}
 use Rattle.std.proofs.Math.Nat.{min-le_left}
@@ -62,7 +64,8 @@ some_entry test [] any = absurd (true≢false (sym any))
 some_entry test (made ∷ seen) any = found_first test made seen (some_entry test seen) (test made.entry) refl any
 
 -- no worker's own entry ends the daemon
-reader_no_stop : (moments : Option (ℕ → Bool)) (h : ℕ) (entry : Entry) → IsOfReader moments h entry → is_stop entry ≡ true → ⊥
+reader_no_stop : (moments : Option (ℕ → Bool)) (h : ℕ) (entry : Entry) → IsOfReader moments h entry
+    → is_stop entry ≡ true → ⊥
 reader_no_stop moments h Stopped own is = own
 reader_no_stop moments h _ own is = true≢false (sym is)
 
@@ -74,7 +77,8 @@ talker_no_stop : (n : ℕ) (entry : Entry) → IsOfTalker n entry → is_stop en
 talker_no_stop n Stopped own is = own
 talker_no_stop n _ own is = true≢false (sym is)
 
-keeper_no_stop : (content : Option (List ℕ → List ℕ)) (path : List ℕ) (slots : Slots) (entry : Entry) → IsOfKeeper content path slots entry
+keeper_no_stop : (content : Option (List ℕ → List ℕ)) (path : List ℕ) (slots : Slots) (entry : Entry)
+    → IsOfKeeper content path slots entry
     → is_stop entry ≡ true → ⊥
 keeper_no_stop content path slots Stopped own is = own
 keeper_no_stop content path slots _ own is = true≢false (sym is)
@@ -119,7 +123,8 @@ talker_slot helpers n name is (HelperDeaf slot inc) own = absurd own
 talker_slot helpers n name is (WentDown slot) own = is ∙ ap (talker_of helpers) (sym own)
 talker_slot helpers n name is _ own = tt
 
-keeper_slot : (content : Option (List ℕ → List ℕ)) (path : List ℕ) (slots : Slots) (helpers : ℕ) (name : List ℕ) (entry : Entry)
+keeper_slot : (content : Option (List ℕ → List ℕ)) (path : List ℕ) (slots : Slots) (helpers : ℕ) (name : List ℕ)
+    (entry : Entry)
     → IsOfKeeper content path slots entry → IsOfSlot helpers entry name
 keeper_slot content path slots helpers name (HelperGone slot inc) own = absurd own
 keeper_slot content path slots helpers name (HelperDeaf slot inc) own = absurd own
@@ -150,7 +155,8 @@ rounds_answer (KeptIdle ∷ rounds) = rounds_answer rounds
 rounds_answer (Loaded new given ∷ rounds) = rounds_answer rounds
 rounds_answer (NotLoaded why ∷ rounds) = rounds_answer rounds
 
-keeper_answers : (content : Option (List ℕ → List ℕ)) (path : List ℕ) (slots : Slots) (was now : ℕ) (seen : List (Signed Entry)) (off : Bool)
+keeper_answers : (content : Option (List ℕ
+    → List ℕ)) (path : List ℕ) (slots : Slots) (was now : ℕ) (seen : List (Signed Entry)) (off : Bool)
     → IfRun off (KeeperRan content path slots was now seen)
     ((under (keeper_of slots.helpers slots.peers) seen ≡ Stopped ∷ []) × (now ≡ was))
     → are_answered false (under (keeper_of slots.helpers slots.peers) seen) ≡ true
@@ -184,7 +190,8 @@ rounds_count (NotLoaded not_read.ReadFault ∷ rounds) before =
 rounds_count (NotLoaded (not_read.Refused fault) ∷ rounds) before = rounds_count rounds before
 rounds_count (NotLoaded not_read.NoMemory ∷ rounds) before = rounds_count rounds before
 
-keeper_counts : (content : Option (List ℕ → List ℕ)) (path : List ℕ) (slots : Slots) (was now : ℕ) (seen : List (Signed Entry)) (off : Bool)
+keeper_counts : (content : Option (List ℕ
+    → List ℕ)) (path : List ℕ) (slots : Slots) (was now : ℕ) (seen : List (Signed Entry)) (off : Bool)
     → IfRun off (KeeperRan content path slots was now seen)
     ((under (keeper_of slots.helpers slots.peers) seen ≡ Stopped ∷ []) × (now ≡ was))
     → RoseBy (unread_in (under (keeper_of slots.helpers slots.peers) seen)) was now
@@ -241,7 +248,8 @@ any_reverse : (test : Entry → Bool) (H : List Entry) → list_any test (revers
 any_reverse test [] any = any
 any_reverse test (entry ∷ H) any =
     of (test entry) (list_any test (reverse H)) (any_reverse test H)
-    (sym (list_any-append test (reverse H) (entry ∷ [])) ∙ (ap (list_any test) (sym (reverse-append (entry ∷ []) H)) ∙ any))
+    (sym (list_any-append test (reverse H) (entry ∷ [])) ∙ (ap (list_any test) (sym (reverse-append
+    (entry ∷ []) H)) ∙ any))
   where
     of : (this those : Bool) → (those ≡ true → list_any test H ≡ true) → (those || (this || false)) ≡ true
         → (this || list_any test H) ≡ true
@@ -252,7 +260,8 @@ any_reverse test (entry ∷ H) any =
 -- where an entry stands
 split_first : (first : Signed Entry) (seen : List (Signed Entry)) (made : Signed Entry)
     → (Contains seen made → (before : List (Signed Entry)) × IsPrefix (before ++ made ∷ []) seen)
-    → (first ≡ made) ⊎ Contains seen made → (before : List (Signed Entry)) × IsPrefix (before ++ made ∷ []) (first ∷ seen)
+    → (first ≡ made) ⊎ Contains seen made → (before : List (Signed Entry))
+    × IsPrefix (before ++ made ∷ []) (first ∷ seen)
 split_first first seen made others (inl is) = ([], (seen, ap (λ (it : Signed Entry). it ∷ seen) (sym is)))
 split_first first seen made others (inr rest) =
     let found = others rest in

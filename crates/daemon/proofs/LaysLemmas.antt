@@ -110,7 +110,8 @@ module _ {F S D E C : Type 0} (stock : Stock S D E) (jobs : List (Job F S D E C)
         for_passes = fits _ _ _ _ _ _ base.passes.ok gains.of_passes room.room_passes;
       }
 
-module _ {F S D E C : Type 0} (clock : C) (old mid new : Stock S D E) (before between after : List (Job F S D E C)) where
+module _ {F S D E C : Type 0} (clock : C) (old mid new : Stock S D E) (before between after : List
+    (Job F S D E C)) where
   -- talkers for all neighbours, then readers and repliers for all helpers
   used_up : MovesPeers old before mid between → mid.peers.items ≡ [] → MovesHelpers clock mid between new after
       → new.helpers.items ≡ [] → length old.ears.items ≡ length old.peers.items

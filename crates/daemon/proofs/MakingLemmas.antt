@@ -149,7 +149,8 @@ module _ {F S D E C : Type 0} (old new : Stock S D E) (before : List (Job F S D 
         a_pass_each = omega (arith, p, q);
         laid = λ files path slots laid. (
           ap (λ (k : ℕ). Talks k dialer ear pass) slot,
-          subst (λ (k : ℕ). TalkersLaid files path slots k (dialers before) (ears before) before (passes before)) p laid,
+          subst (λ (k : ℕ). TalkersLaid files path slots k (dialers before) (ears before) before
+              (passes before)) p laid,
         );
       }
 

@@ -9,7 +9,8 @@ use Rattle.peer_worker.specs.Rounds.{Told as Dialling}
 use Rattle.crew.specs.Jobs.{Job}
 use Rattle.crew.specs.Works.{AllGo}
 use Rattle.daemon.specs.Done.{JobsDone}
-use Rattle.daemon.specs.Laid.{AreWhole, Gains, HasRoom, IsFull, IsLaid, IsUsedUp, dialers, ears, files_of, passes, spawners}
+use Rattle.daemon.specs.Laid.{AreWhole, Gains, HasRoom, IsFull, IsLaid, IsUsedUp, dialers, ears, files_of, passes}
+use Rattle.daemon.specs.Laid.{spawners}
 use Rattle.daemon.specs.Names.{workers}
 use Rattle.daemon.specs.declared.stock.Stock.{Stock}
 use Rattle.daemon.proofs.DoneLemmas.{all_alike, jobs_done}
@@ -54,17 +55,22 @@ module _ {F S D E C : Type 0} (content : F → Option (List ℕ → List ℕ)) (
         → JobsDone content faults lent spawning dialling refused (moments clock) path slots full.helpers.items
         last.helpers.items full.peers.items last.peers.items files files' full.passes.items last.passes.items
     run_done files' many few back =
-        subst (λ it. JobsDone content faults lent spawning dialling refused (moments clock) path slots full.helpers.items it
+        subst (λ it. JobsDone content faults lent spawning dialling refused
+        (moments clock) path slots full.helpers.items it
         full.peers.items last.peers.items files files' full.passes.items last.passes.items) (sym helpers_are)
-        (subst (λ it. JobsDone content faults lent spawning dialling refused (moments clock) path slots full.helpers.items
+        (subst (λ it. JobsDone content faults lent spawning dialling refused
+        (moments clock) path slots full.helpers.items
         (spawners news) full.peers.items it files files' full.passes.items last.passes.items) (sym peers_are)
-        (subst (λ it. JobsDone content faults lent spawning dialling refused (moments clock) path slots full.helpers.items
+        (subst (λ it. JobsDone content faults lent spawning dialling refused
+        (moments clock) path slots full.helpers.items
         (spawners news) full.peers.items (dialers news) files files' full.passes.items it) (sym passes_are)
-        (jobs_done content faults lent spawning dialling moments refused clock path slots files files' full.helpers.items
+        (jobs_done content faults lent spawning dialling moments refused clock path slots files files'
+        full.helpers.items
         full.peers.items full.ears.items olds news full.passes.items many few laid go back)))
 
     were : (spawners olds ≡ full.helpers.items) × (dialers olds ≡ full.peers.items) × (ears olds ≡ full.ears.items)
-    were = laid_devices files path slots clock full.peers.items full.ears.items 0 full.helpers.items olds full.passes.items laid
+    were = laid_devices files path slots clock full.peers.items full.ears.items 0 full.helpers.items olds
+        full.passes.items laid
 
     pub as_many_helpers : length last.helpers.items ≡ length full.helpers.items
     as_many_helpers = ap length helpers_are ∙ (gone_counts.of_spawners ∙ ap length were.0)
@@ -83,5 +89,6 @@ module _ {F S D E C : Type 0} (clock : C) (path : List ℕ) (slots : Slots) (fil
       → IsLaid files path slots clock full.peers.items full.ears.items full.helpers.items jobs full.passes.items
       → count ≡ workers slots.helpers slots.peers
   all_jobs count is whole many few laid =
-      sym is ∙ (laid_count files path slots clock full.peers.items full.ears.items 0 full.helpers.items jobs full.passes.items
+      sym is ∙ (laid_count files path slots clock full.peers.items full.ears.items 0 full.helpers.items jobs
+      full.passes.items
       laid ∙ (whole.a_pass_each ∙ ap₂ workers (sym many) (sym few)))

@@ -1,5 +1,5 @@
--- How the daemon's jobs are laid out, in the order of their passes: for each helper slot its reader and its replier, for
--- each neighbour slot its talker, and last the keeper.
+-- How the daemon's jobs are laid out, in the order of their passes: for each helper slot its reader and its replier,
+-- for each neighbour slot its talker, and last the keeper.
 use Rattle.std.specs.Prelude.{ℕ, suc, ◌≡◌, ◌+◌, ◌<◌, ◌≤◌, ⊤, List, [], ◌∷◌, ◌++◌, length, slice_index_or}
 use Rattle.std.specs.List.{flat_map}
 use Rattle.std.specs.Vec.{vec_capacity}
@@ -68,7 +68,8 @@ module _ {F S D E C : Type 0} where
   module _ (files : F) (path : List ℕ) (slots : Slots) where
     -- the keeper alone
     abbrev pub KeeperLaid : List (Job F S D E C) → List (Known Sections Entry) → Type 0
-    KeeperLaid jobs given = (pass : Known Sections Entry) × (jobs ≡ Keeps files path slots pass ∷ []) × (given ≡ pass ∷ [])
+    KeeperLaid jobs given = (pass : Known Sections Entry) × (jobs ≡ Keeps files path slots pass ∷ [])
+        × (given ≡ pass ∷ [])
 
     -- the talkers of the slots from the n-th on, of these devices, and the keeper
     abbrev pub TalkersLaid : ℕ → List D → List E → List (Job F S D E C) → List (Known Sections Entry) → Type 0

@@ -77,7 +77,8 @@ module _ {F S D E C : Type 0} where
     pub laid : (files : F) (path : List ℕ) (slots : Slots) (peers : List D) (heard : List E)
         → HelpersLaid files path slots clock peers heard (length old.helpers.items) (spawners before) before
         (passes before)
-        → HelpersLaid files path slots clock peers heard (length new.helpers.items) (spawners after) after (passes after)
+        → HelpersLaid files path slots clock peers heard (length new.helpers.items) (spawners after) after
+        (passes after)
 
   -- a stock gave its last pass, and the keeper that has it is the only job
   pub record IsKept (files : F) (path : List ℕ) (slots : Slots) (old : Stock S D E) (jobs : List (Job F S D E C))

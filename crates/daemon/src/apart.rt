@@ -73,8 +73,8 @@ fn pop_replier<
     }
 }
 
-// Puts what the job was made of back that is the last of places, and with a reader that of its replier, the last but one.
-// The keeper's files come back.
+// Puts what the job was made of back that is the last of places, and with a reader that of its replier, the last but
+// one. The keeper's files come back.
 fn put_next<
     'g,
     F: Files + Drop,

@@ -108,8 +108,8 @@ fn start_keeper<'g, F: Files + Drop, S: Spawner + Drop, D, E, C, P: Pause + Drop
 
 /// Makes the jobs of all slots of a stock, each of the devices of its slot and of the pass of its number.
 ///
-/// Readers and repliers come slot by slot, then the talkers, and last the keeper. Where there is no memory for them, all
-/// is in the stock as before, and the files come back. `N` names the gate.
+/// Readers and repliers come slot by slot, then the talkers, and last the keeper. Where there is no memory for them,
+/// all is in the stock as before, and the files come back. `N` names the gate.
 pub fn make_all<
     'g,
     F: Files + Drop,

@@ -42,10 +42,10 @@ use std::thread::Threads;
 
 /// Runs the daemon that the words spell, until all its workers have ended.
 ///
-/// `run CONFIG` reads the file at this path as a configuration for as many slots as the world has helpers and neighbours,
-/// opens the engine by it, and runs its workers beside each other. Any other words are `Usage`. A file that isn't read, or
-/// is no configuration, ends the call before a worker is started, and so does want of memory. `NoCrew` says that a worker
-/// was refused its thread: each such worker was called off, which ended the daemon.
+/// `run CONFIG` reads the file at this path as a configuration for as many slots as the world has helpers and
+/// neighbours, opens the engine by it, and runs its workers beside each other. Any other words are `Usage`. A file that
+/// isn't read, or is no configuration, ends the call before a worker is started, and so does want of memory. `NoCrew`
+/// says that a worker was refused its thread: each such worker was called off, which ended the daemon.
 ///
 /// Each device comes back in its place, whatever the status. It isn't promised that the call returns.
 pub fn exabgp_run<
@@ -83,9 +83,10 @@ pub fn exabgp_run<
     ensures files { HasFiles F.content F.lent world.entry result.world }
     ensures back { IsBack world.entry result.world }
 
-    // A file that has a first fault is refused for it, and by one that is a configuration the workers run to their end, if
-    // memory suffices and nothing fails.
-    ensures refuses { (path : List ℕ) (fault : Fault) → map (λ word. word.now) words.now ≡ run_words path
+    // A file that has a first fault is refused for it, and by one that is a configuration the workers run to their end,
+    // if memory suffices and nothing fails.
+    ensures refuses { (path : List ℕ) (fault : Fault)
+        → map (λ word. word.now) words.now ≡ run_words path
         → HasToldFault F.content path world.entry fault
         → ¬ Rose (F.faults world.entry.files) (F.faults result.world.files)
         → ¬ Rose world.entry.crew.faults result.world.crew.faults

@@ -47,7 +47,8 @@ pub fn workers(slots: Slots) -> usize
     slots.helpers + slots.helpers + slots.peers + 1
 }
 
-/// Makes the jobs of all slots, does them beside each other until all have ended, and takes them apart. `N` names the gate.
+/// Makes the jobs of all slots, does them beside each other until all have ended, and takes them apart. `N` names the
+/// gate.
 ///
 /// A job that the crew refuses is called off instead. Where there is no memory, none is started and all is as before.
 pub fn run_jobs<

@@ -6,8 +6,8 @@ use std::test::Fail;
 // RFC 4271, section 4.1.
 const MARKER: [u8; 16] = [0xff; 16];
 
-// What this speaker offers: IPv4 and IPv6 routes, to be asked for again, and its AS in four bytes (RFC 4271, section 4.2;
-// RFC 5492, section 4).
+// What this speaker offers: IPv4 and IPv6 routes, to be asked for again, and its AS in four bytes (RFC 4271, section
+// 4.2; RFC 5492, section 4).
 const OPEN: &[u8] = &[
     0x00, 0x33, 0x01, 0x04, // length, type, version
     0xfd, 0xe9, 0x00, 0xb4, 0xc0, 0x00, 0x02, 0x09, // AS, hold time, identifier

@@ -1,4 +1,5 @@
-use Rattle.daemon.proofs.LawLemmas.{runs_answer, runs_count, runs_end, runs_enter, runs_name, runs_reload, runs_shut_down}
+use Rattle.daemon.proofs.LawLemmas.{runs_answer, runs_count, runs_end, runs_enter, runs_name, runs_reload}
+use Rattle.daemon.proofs.LawLemmas.{runs_shut_down}
 use Rattle.daemon.proofs.LawLemmas.{runs_stop}
 use Rattle.daemon.proofs.laws.runs_tell.Goals as goal
 

@@ -21,7 +21,8 @@ add_slots-requires-clause-fresh g c = λ places bounds. c.add_talkers.ensures.mo
 
 pub add_slots-requires-clause-space : goal.add_slots-requires-clause-space
 add_slots-requires-clause-space g c =
-    λ places bounds. space_stays _ _ _ _ _ _ _ c.add_talkers.ensures.moves.moves.counts c.requires.space c.add_talkers.ensures.space
+    λ places bounds. space_stays _ _ _ _ _ _ _ c.add_talkers.ensures.moves.moves.counts c.requires.space
+    c.add_talkers.ensures.space
 
 pub returns-in_err-add_slots-clause-moves : goal.returns-in_err-add_slots-clause-moves
 returns-in_err-add_slots-clause-moves g c =

@@ -4,16 +4,19 @@ use Rattle.daemon.proofs.WholeLemmas.{all_back, all_files, all_laid, all_room, a
 use Rattle.daemon.proofs.making.make_all.Goals as goal
 
 pub add_rest-rest-requires-clause-few_helpers : goal.add_rest-rest-requires-clause-few_helpers
-add_rest-rest-requires-clause-few_helpers g c = λ places bounds. left_helpers _ _ _ _ _ _ c.in-Ok.ensures.kept _ c.requires.full
+add_rest-rest-requires-clause-few_helpers g c = λ places bounds. left_helpers _ _ _ _ _ _ c.in-Ok.ensures.kept _
+    c.requires.full
 
 pub add_rest-rest-requires-clause-few_peers : goal.add_rest-rest-requires-clause-few_peers
-add_rest-rest-requires-clause-few_peers g c = λ places bounds. left_peers _ _ _ _ _ _ c.in-Ok.ensures.kept _ c.requires.full
+add_rest-rest-requires-clause-few_peers g c = λ places bounds. left_peers _ _ _ _ _ _ c.in-Ok.ensures.kept _
+    c.requires.full
 
 pub add_rest-rest-requires-clause-ears : goal.add_rest-rest-requires-clause-ears
 add_rest-rest-requires-clause-ears g c = λ places bounds. left_ears _ _ _ _ _ _ c.in-Ok.ensures.kept _ c.requires.full
 
 pub add_rest-rest-requires-clause-passes : goal.add_rest-rest-requires-clause-passes
-add_rest-rest-requires-clause-passes g c = λ places bounds. left_passes _ _ _ _ _ _ c.in-Ok.ensures.kept _ c.requires.full
+add_rest-rest-requires-clause-passes g c = λ places bounds. left_passes _ _ _ _ _ _ c.in-Ok.ensures.kept _
+    c.requires.full
 
 pub add_rest-rest-requires-clause-fresh : goal.add_rest-rest-requires-clause-fresh
 add_rest-rest-requires-clause-fresh g c = λ places bounds. left_fresh _ _ _ _ _ _ c.in-Ok.ensures.kept _ c.requires.full

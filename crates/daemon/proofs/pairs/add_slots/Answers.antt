@@ -14,7 +14,8 @@ add_slot-requires-clause-fresh g c = λ places bounds. c.slots.invariant.moves.m
 
 pub add_slot-requires-clause-space : goal.add_slot-requires-clause-space
 add_slot-requires-clause-space g c =
-    λ places bounds. space_stays _ _ _ _ _ _ _ c.slots.invariant.moves.moves.counts c.requires.space c.slots.invariant.space
+    λ places bounds. space_stays _ _ _ _ _ _ _ c.slots.invariant.moves.moves.counts c.requires.space
+    c.slots.invariant.space
 
 pub slots-preserved : goal.slots-preserved
 slots-preserved g c =

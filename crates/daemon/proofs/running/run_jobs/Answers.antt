@@ -5,7 +5,8 @@ use Rattle.crew.specs.Views.{job_of, jobs_of}
 use Rattle.helper_worker.specs.Rounds.{told as told_by}
 use Rattle.outside.specs.Refusals.{is_refused}
 use Rattle.peer_worker.specs.Rounds.{told}
-use Rattle.daemon.proofs.RunLemmas.{all_jobs, as_many_ears, as_many_helpers, as_many_peers, gone_room, gone_whole, run_done}
+use Rattle.daemon.proofs.RunLemmas.{all_jobs, as_many_ears, as_many_helpers, as_many_peers, gone_room, gone_whole}
+use Rattle.daemon.proofs.RunLemmas.{run_done}
 use Rattle.daemon.proofs.running.run_jobs.Goals as goal
 
 pub take_all_apart-requires-clause-whole : goal.take_all_apart-requires-clause-whole
