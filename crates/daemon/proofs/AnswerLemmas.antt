@@ -1,7 +1,6 @@
 -- What the call that runs the daemon promises of its statuses.
-use Rattle.std.proofs.Common.{◌≡◌, ◌⊎◌, ℕ, ◌≤◌, Bool, List, [], ◌∷◌, Option, Some, None, refl, sym, ap, subst, ◌∙◌, inl, inr, arith}
-use Rattle.outside.specs.Opening.{IsContent}
-use Rattle.outside.specs.Told.{CountsOne, Rose, counted}
+use Rattle.std.proofs.Common.{◌≡◌, ◌⊎◌, ℕ, Bool, List, Option, Some, None, refl, sym, ap, subst, inl, inr, arith}
+use Rattle.outside.specs.Told.{CountsOne, Rose}
 use Rattle.config_model.specs.Sections.{Sections}
 use Rattle.config_model.specs.declared.fault.ConfigFault.{ConfigFault}
 use Rattle.config_model.specs.declared.slots.Slots.{Slots}

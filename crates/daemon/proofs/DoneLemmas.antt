@@ -1,5 +1,5 @@
 -- What became of jobs that were laid out, each of which was done or called off.
-use Rattle.std.proofs.Common.{ℕ, ◌≡◌, ◌+◌, ◌<◌, ◌∙◌, Bool, true, false, suc, List, [], ◌∷◌, length, get_or, drop, sym, ap, subst, subst₂, arith, zero-add, get_or-drop, refl}
+use Rattle.std.proofs.Common.{ℕ, ◌≡◌, ◌+◌, ◌∙◌, Bool, true, false, suc, List, [], ◌∷◌, length, get_or, drop, sym, ap, subst, subst₂, arith, zero-add, get_or-drop, refl}
 use Rattle.std.specs.List.{AllZip}
 use Rattle.std.specs.declared.option.Option.{Option}
 use Rattle.config_model.specs.declared.slots.Slots.{Slots}

@@ -1,7 +1,7 @@
 -- How a run of the daemon ends.
-use Rattle.std.proofs.Common.{◌≡◌, ◌⊎◌, ℕ, ◌+◌, ◌<◌, ◌≤◌, Bool, true, false, List, [], ◌∷◌, Option, Some, None, refl, sym, ap}
-use Rattle.std.proofs.Common.{subst, ◌∙◌, inl, inr, arith, length}
-use Rattle.std.specs.Prelude.{All, IfNone, IfSome, reverse, slice_index_or}
+use Rattle.std.proofs.Common.{◌≡◌, ℕ, ◌+◌, ◌<◌, ◌≤◌, Bool, true, false, List, Option, Some, None, refl, sym, ap}
+use Rattle.std.proofs.Common.{subst, ◌∙◌, arith, length}
+use Rattle.std.specs.Prelude.{All, IfNone, IfSome, slice_index_or}
 use Rattle.outside.specs.Lent.{LendsNone}
 use Rattle.outside.specs.Opening.{IsContent}
 use Rattle.outside.specs.Refusals.{Refusals, is_refused}
@@ -11,8 +11,7 @@ use Rattle.config_model.specs.Sections.{Sections}
 use Rattle.config_model.specs.declared.slots.Slots.{Slots}
 use Rattle.config_files.specs.Configured.{IsConfigAt, IsNoneAt}
 use Rattle.book_gate.specs.Known.{TableId, first_known}
-use Rattle.book_gate_many.specs.Many.{IsAllJoined, IsMany}
-use Rattle.book_history.specs.Legal.{Allows}
+use Rattle.book_gate_many.specs.Many.{IsMany}
 use Rattle.book_history.specs.declared.outcomes.NotRead.{NotRead}
 use Rattle.book_history.specs.declared.outcomes.NotRead.TheVariants as not_read
 use Rattle.control_worker.proofs.LentLemmas.{lent_same}

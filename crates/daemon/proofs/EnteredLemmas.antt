@@ -1,7 +1,7 @@
 -- Which worker made which entry.
-use Rattle.std.proofs.Common.{◌≡◌, ◌⊎◌, ℕ, zero, suc, ◌+◌, ◌<◌, Bool, true, false, List, [], ◌∷◌, ◌++◌, map, length, Option}
-use Rattle.std.proofs.Common.{refl, sym, ap, subst, ◌∙◌, inl, inr, arith}
-use Rattle.std.specs.Prelude.{Contains, replicate, slice_index_or}
+use Rattle.std.proofs.Common.{◌≡◌, ◌⊎◌, ℕ, ◌+◌, ◌<◌, Bool, true, false, List, [], ◌∷◌, ◌++◌, Option}
+use Rattle.std.proofs.Common.{refl, sym, ap, subst, ◌∙◌, inl, inr}
+use Rattle.std.specs.Prelude.{Contains}
 use Rattle.std.specs.List.{All, flat_map}
 use Rattle.std.proofs.lemmas.List.Elements.{All-append, All-cons, All-contains, All-head, All-nil, All-replicate, All-tail}
 use Rattle.std.proofs.lemmas.List.Elements.{All-weaker}
@@ -18,14 +18,13 @@ use Rattle.book_history.specs.Entries.{Entry}
 use Rattle.book_history.specs.Entries.Entry.{ControlAsked, HelperDeaf, HelperGone, LineEntered, PeerAsked, Reloaded}
 use Rattle.book_history.specs.Entries.Entry.{ReloadRefused, SpawnAsked, Stopped}
 use Rattle.book_history.specs.declared.outcomes.Control.TheVariants as control
-use Rattle.book_history.specs.declared.outcomes.NotRead.{NotRead}
 use Rattle.book_history.specs.declared.outcomes.Peer.TheVariants as peer
 use Rattle.book_history.specs.declared.outcomes.Spawn.TheVariants as spawn
 use Rattle.book_history.specs.declared.outcomes.Verdict.TheVariants as verdict
 use Rattle.control_worker.specs.Rounds.{IsFiled, due_told, stop_told, Round as Keeping, entries_of as kept_by}
 use Rattle.control_worker.specs.Rounds.Round.{Idle as KeptIdle, Loaded, Refused as NotLoaded}
 use Rattle.helper_worker.specs.Handing.{under, writer_of}
-use Rattle.helper_worker.specs.Lines.{Asked, LineRun, entries_for}
+use Rattle.helper_worker.specs.Lines.{Asked, entries_for}
 use Rattle.helper_worker.specs.Replies.{IsReplyOf}
 use Rattle.helper_worker.specs.Rounds.{IsOutcome, IsRound, Outcome, Told as Spawning, Round as Reading, entries_of as read_by, made_by as made_in}
 use Rattle.helper_worker.specs.Rounds.Outcome.{Heard, Failed}
@@ -38,8 +37,8 @@ use Rattle.peer_worker.specs.Rounds.Round.{Visit, Missed, Idle as TalkIdle}
 use Rattle.daemon.specs.Done.{IfRun}
 use Rattle.daemon.specs.Entered.{IsByWorker, IsOfKeeper, IsOfReader, IsOfReplier, IsOfTalker, MayEnter}
 use Rattle.daemon.specs.Names.{keeper_of, reader_of, talker_of, workers}
-use Rattle.daemon.specs.Runs.{Devices, IsCalledOff, IsReplierOff, IsRun, KeeperEnds, KeeperRan, ReaderEnds, ReaderRan}
-use Rattle.daemon.specs.Runs.{ReplierEnds, ReplierRan, TalkerEnds, TalkerRan, dialling_at, spawning_at}
+use Rattle.daemon.specs.Runs.{Devices, IsCalledOff, IsReplierOff, IsRun, KeeperRan, ReaderRan}
+use Rattle.daemon.specs.Runs.{ReplierRan, TalkerRan}
 use Rattle.daemon.proofs.JoinedLemmas.{stands_by}
 use Rattle.daemon.proofs.RanLemmas.{Which, which}
 

@@ -1,5 +1,5 @@
 -- Jobs that have gone can be taken apart again, into the room that there was.
-use Rattle.std.proofs.Common.{ℕ, ◌≡◌, ◌+◌, ◌++◌, ◌≤◌, ◌∙◌, Bool, suc, List, [], ◌∷◌, length, sym, ap, ap₂, subst, refl, length-append, arith}
+use Rattle.std.proofs.Common.{ℕ, ◌≡◌, ◌+◌, ◌++◌, ◌≤◌, ◌∙◌, Bool, suc, List, [], ◌∷◌, length, sym, ap, subst, refl, length-append, arith}
 use Rattle.std.specs.List.{AllZip}
 use Rattle.std.specs.Vec.{vec_capacity}
 use Rattle.std.specs.declared.option.Option.{Option}

@@ -1,30 +1,27 @@
 -- What follows of the history of a run.
-use Rattle.std.proofs.Common.{◌≡◌, ◌⊎◌, ℕ, zero, suc, ◌+◌, ◌-◌, ◌^◌, ◌<◌, ◌≤◌, Bool, true, false, true≢false, ◌||◌, cond}
-use Rattle.std.proofs.Common.{List, [], ◌∷◌, ◌++◌, map, length, Option, Some, refl, sym, ap, subst, ◌∙◌, inl, inr, ⊎_elim, arith}
-use Rattle.std.specs.Prelude.{Contains, min, reverse, slice_index_or, Ok, Err, if◌then◌else◌}
+use Rattle.std.proofs.Common.{◌≡◌, ◌⊎◌, ℕ, ◌+◌, ◌-◌, ◌^◌, ◌<◌, ◌≤◌, Bool, true, false, true≢false, ◌||◌, cond}
+use Rattle.std.proofs.Common.{List, [], ◌∷◌, ◌++◌, Option, refl, sym, ap, subst, ◌∙◌, inl, inr, arith}
+use Rattle.std.specs.Prelude.{Contains, min, reverse, Ok, if◌then◌else◌}
 use Rattle.std.specs.List.{flat_map, list_any}
 use Rattle.std.proofs.Math.Nat.{min-le_left}
 use Rattle.std.proofs.lemmas.Bool.Decides.{nat_tests}
-use Rattle.std.proofs.lemmas.List.{append_assoc, map-append, reverse-append}
-use Rattle.std.proofs.lemmas.List.Concat.{flat_map-append}
+use Rattle.std.proofs.lemmas.List.{append_assoc, reverse-append}
 use Rattle.std.proofs.lemmas.List.Folds.{list_any-append}
 use mathlib.Core.List.{IsPrefix}
 use Rattle.command_grammar.specs.declared.command.Command.TheVariants as command
 use Rattle.config_model.specs.Sections.{Sections}
 use Rattle.config_model.specs.declared.slots.Slots.{Slots}
 use Rattle.outside.specs.Told.{counted}
-use Rattle.book_gate.specs.Calls.{IsLegal}
-use Rattle.book_gate.specs.Histories.{Legal, entries, entries_by, is_name}
+use Rattle.book_gate.specs.Histories.{entries, entries_by, is_name}
 use Rattle.book_gate.specs.Known.{Known}
 use Rattle.book_gate.specs.declared.view.Signed.{Signed}
 use Rattle.book_gate.proofs.HistoryLemmas.{entries-prefix, entries-push}
 use Rattle.book_gate.proofs.ListLemmas.{contains_cases, contains_here, contains_none, contains_there}
 use Rattle.book_history.specs.Entries.{Entry, History}
-use Rattle.book_history.specs.Entries.Entry.{ControlAsked, HelperDeaf, HelperGone, LineEntered, PeerAsked, SpawnAsked}
+use Rattle.book_history.specs.Entries.Entry.{ControlAsked, HelperDeaf, HelperGone, LineEntered}
 use Rattle.book_history.specs.Entries.Entry.{Stopped, WentDown}
 use Rattle.book_history.specs.Legal.{Allows, directed, is_reload_due}
 use Rattle.book_history.specs.Verdicts.{is_stopping}
-use Rattle.book_history.specs.declared.outcomes.Control.{Control}
 use Rattle.book_history.specs.declared.outcomes.Control.TheVariants as control
 use Rattle.book_history.specs.declared.outcomes.NotRead.TheVariants as not_read
 use Rattle.book_history.specs.declared.outcomes.Verdict.TheVariants as verdict
@@ -34,7 +31,7 @@ use Rattle.helper_worker.specs.Handing.{HasStop, IsAnswered, TookNothing, is_sto
 use Rattle.helper_worker.proofs.HandingLemmas.{any_stays, stop_stays}
 use Rattle.helper_worker.proofs.StayLemmas.{answers_stay}
 use Rattle.daemon.specs.Done.{IfRun}
-use Rattle.daemon.specs.Entered.{HasShutdown, IsByWorker, IsOfKeeper, IsOfReader, IsOfReplier, IsOfTalker, MayEnter}
+use Rattle.daemon.specs.Entered.{HasShutdown, IsByWorker, IsOfKeeper, IsOfReader, IsOfReplier, IsOfTalker}
 use Rattle.daemon.specs.Entered.{RoseBy, are_answered, is_shutdown, unread_in}
 use Rattle.daemon.specs.Laws.{IsOfSlot, NoneRefused, RunsAnswer, RunsCount, RunsEnd, RunsEnter, RunsName, RunsReload}
 use Rattle.daemon.specs.Laws.{RunsShutDown, RunsStop}

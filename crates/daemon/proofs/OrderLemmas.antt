@@ -1,5 +1,5 @@
 -- What became of readers and repliers in turn, then of talkers, and last of a keeper, by their places.
-use Rattle.std.proofs.Common.{ℕ, ◌≡◌, ◌+◌, ◌<◌, ◌∙◌, suc, zero, List, [], ◌∷◌, length, get_or, drop, sym, ap, ap₂, subst, arith, refl, add-zero, zero-add, suc-add, add-suc, le_of_suc-le-suc, get_or-drop}
+use Rattle.std.proofs.Common.{ℕ, ◌≡◌, ◌+◌, ◌<◌, ◌∙◌, suc, zero, List, [], ◌∷◌, length, get_or, drop, sym, ap, subst, arith, refl, add-zero, suc-add, add-suc, le_of_suc-le-suc}
 
 module _ {S D Q : Type 0} (R : ℕ → S → S → Q → Q → Type 0) (W : ℕ → Q → Q → Type 0)
     (T : ℕ → D → D → Q → Q → Type 0) (K : Q → Q → Type 0) where

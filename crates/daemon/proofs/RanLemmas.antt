@@ -1,33 +1,28 @@
 -- From the jobs of a daemon to what its history says of them.
-use Rattle.std.proofs.Common.{◌≡◌, ◌⊎◌, ℕ, zero, suc, ◌+◌, ◌<◌, Bool, true, false, List, [], ◌∷◌, ◌++◌, map, length, Option}
-use Rattle.std.proofs.Common.{Some, None, refl, sym, ap, subst, ◌∙◌, inl, inr, arith}
-use Rattle.std.specs.Prelude.{Contains, reverse, slice_index_or}
+use Rattle.std.proofs.Common.{◌≡◌, ◌⊎◌, ℕ, zero, suc, ◌+◌, ◌<◌, Bool, true, false, List, [], ◌∷◌, ◌++◌, length, Option}
+use Rattle.std.proofs.Common.{None, refl, sym, ap, subst, inl, inr, arith}
+use Rattle.std.specs.Prelude.{reverse, slice_index_or}
 use Rattle.std.proofs.lemmas.List.{get_or-map}
 use mathlib.Core.List.{IsPrefix}
 use Rattle.outside.specs.Lent.{LendsNone}
-use Rattle.outside.specs.Moments.{MayRead}
 use Rattle.config_model.specs.Sections.{Sections}
 use Rattle.config_model.specs.declared.slots.Slots.{Slots}
 use Rattle.config_files.specs.Configured.{IsConfigAt}
-use Rattle.book_gate.specs.Histories.{entries, entries_by}
-use Rattle.book_gate.specs.Known.{Known, TableId, first_known}
+use Rattle.book_gate.specs.Known.{TableId, first_known}
 use Rattle.book_gate.specs.Names.{child_name}
 use Rattle.book_gate.specs.declared.view.Signed.{Signed}
 use Rattle.book_gate.proofs.ListLemmas.{prefix_trans}
 use Rattle.book_gate_many.specs.Many.{IsAllJoined, IsMany}
 use Rattle.book_history.specs.Entries.{Entry}
-use Rattle.book_history.specs.Entries.Entry.{Stopped}
 use Rattle.book_history.specs.Legal.{Allows}
 use Rattle.pass_entries.specs.Making.{Makes, own}
-use Rattle.control_worker.specs.Rounds.{Keeps, stop_told}
 use Rattle.helper_worker.specs.Handing.{under, writer_of}
-use Rattle.helper_worker.specs.Rounds.{Ends, IsBackBy, ReadsOut, Told as Spawning, told as spawning_told}
-use Rattle.helper_worker.specs.Serving.{CallsOff, Serves}
-use Rattle.peer_worker.specs.Rounds.{Talks, Told as Dialling, told as dialling_told, stopping}
+use Rattle.helper_worker.specs.Rounds.{Ends, IsBackBy, Told as Spawning, told as spawning_told}
+use Rattle.peer_worker.specs.Rounds.{Told as Dialling, told as dialling_told}
 use Rattle.daemon.specs.Done.{IfRun, JobsDone, KeeperDone, Pass, ReaderDone, ReplierDone, TalkerDone}
 use Rattle.daemon.specs.Names.{keeper_of, reader_of, talker_of, workers}
 use Rattle.control_worker.proofs.LentLemmas.{lent_same}
-use Rattle.daemon.specs.Runs.{Devices, IsCalledOff, IsHistory, IsReplierOff, IsRun, KeeperRan, ReaderRan, ReplierRan}
+use Rattle.daemon.specs.Runs.{IsCalledOff, IsReplierOff, IsRun, KeeperRan, ReaderRan, ReplierRan}
 use Rattle.daemon.specs.Runs.{TalkerRan, devices, dialling_at, spawning_at}
 use Rattle.daemon.proofs.JoinedLemmas.{WereMade, AreNew, all_legal, all_named, are_new, made_by, same_start, still}
 

@@ -1,5 +1,5 @@
 -- What a history says of the workers that made it, by the names of its entries.
-use Rattle.std.specs.Prelude.{ℕ, ◌≡◌, ◌+◌, ◌⊎◌, ◌<◌, Bool, true, false, List, [], ◌∷◌, ◌++◌, length, map, reverse, slice_index_or, Contains}
+use Rattle.std.specs.Prelude.{ℕ, ◌≡◌, ◌+◌, ◌⊎◌, ◌<◌, Bool, List, [], ◌∷◌, ◌++◌, map, reverse, slice_index_or, Contains}
 use Rattle.std.specs.List.{All, flat_map}
 use Rattle.std.specs.declared.option.Option.{Option}
 use Rattle.std.specs.declared.option.Option.TheVariants.{Some, None}
@@ -16,7 +16,7 @@ use Rattle.book_history.specs.Entries.Entry.{HelperDeaf, SpawnAsked, Stopped}
 use Rattle.book_history.specs.Legal.{Allows}
 use Rattle.book_history.specs.declared.outcomes.Spawn.TheVariants as spawn
 use Rattle.control_worker.specs.Rounds.{IsFiled, counted_behind, stop_told, Round as Keeping, entries_of as kept_by}
-use Rattle.helper_worker.specs.Handing.{HasStop, under, writer_of}
+use Rattle.helper_worker.specs.Handing.{under, writer_of}
 use Rattle.helper_worker.specs.Rounds.{Ends, IsBackBy, IsRound, Tells, Told as Spawning, told as spawning_told, Round as Reading, entries_of as read_by}
 use Rattle.helper_worker.specs.Rounds.Outcome.{Heard}
 use Rattle.helper_worker.specs.Rounds.Round.{Start}
