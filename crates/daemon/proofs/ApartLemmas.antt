@@ -1,5 +1,5 @@
 -- Jobs that go back into a stock, the first first.
-use Rattle.std.proofs.Common.{ℕ, suc, ◌≡◌, ◌+◌, ◌≤◌, ◌<◌, List, [], ◌∷◌, ◌++◌, length, refl, ap, sym, subst, ◌∙◌, arith}
+use Rattle.std.proofs.Common.{ℕ, suc, ◌≡◌, ◌+◌, ◌≤◌, List, [], ◌∷◌, length, refl, ap, sym, subst, ◌∙◌, arith}
 use Rattle.std.proofs.Common.{append-nil}
 use Rattle.std.specs.Vec.{vec_capacity}
 use Rattle.config_model.specs.Sections.{Sections}
@@ -9,43 +9,19 @@ use Rattle.book_history.specs.Entries.{Entry}
 use Rattle.crew.specs.Jobs.{Job}
 use Rattle.crew.specs.Jobs.Job.{Keeps, Reads, Replies, Talks}
 use Rattle.daemon.specs.declared.stock.Stock.{Stock}
-use Rattle.daemon.specs.Laid.{AreWhole, Gains, HasRoom, files_of}
+use Rattle.daemon.specs.Laid.{AreWhole, Gains, HasRoom}
 use Rattle.daemon.specs.Laid.{dialers, ears, passes, spawners}
-use Rattle.daemon.specs.Making.{IsReplierFirst, PairMore, PassMore, Returns, SameRoom, TalkerMore}
+use Rattle.daemon.specs.Making.{PairMore, PassMore, Returns, SameRoom, TalkerMore}
 use Rattle.daemon.proofs.MakingLemmas.{one_longer, push_front, push_two, stays, two_longer}
 
 module _ {F S D E C : Type 0} where
-  -- behind a reader is its replier
-  pub replier_next : (h : ℕ) (spawner : S) (clock : C) (pass : Known Sections Entry) (jobs : List (Job F S D E C))
-      → AreWhole (Reads h spawner clock pass ∷ jobs) → IsReplierFirst jobs
-  replier_next h spawner clock pass [] whole = absurd whole
-  replier_next h spawner clock pass (Reads _ _ _ _ ∷ more) whole = absurd whole
-  replier_next h spawner clock pass (Replies _ _ _ ∷ more) whole = tt
-  replier_next h spawner clock pass (Talks _ _ _ _ ∷ more) whole = absurd whole
-  replier_next h spawner clock pass (Keeps _ _ _ _ ∷ more) whole = absurd whole
-
   -- behind the keeper is no job
   pub keeper_last : (files : F) (path : List ℕ) (slots : Slots) (pass : Known Sections Entry)
       (jobs : List (Job F S D E C)) → AreWhole (Keeps files path slots pass ∷ jobs) → jobs ≡ []
   keeper_last files path slots pass [] whole = refl
   keeper_last files path slots pass (job ∷ more) whole = absurd whole
 
-  -- no job is none that can be taken apart
-  pub some_left : (jobs : List (Job F S D E C)) → jobs ≡ [] → AreWhole jobs → ⊥
-  some_left jobs none whole = subst (λ (all : List (Job F S D E C)). AreWhole all) none whole
-
 module _ {F S D E C : Type 0} (old new : Stock S D E) (jobs : List (Job F S D E C)) where
-  -- there is room for what a talker has
-  pub talker_fits : (n : ℕ) (dialer : D) (ear : E) (pass : Known Sections Entry)
-      → HasRoom old (Talks n dialer ear pass ∷ jobs)
-      → (length old.peers.items < vec_capacity old.peers) × (length old.ears.items < vec_capacity old.ears)
-      × (length old.passes.items < vec_capacity old.passes)
-  talker_fits n dialer ear pass room =
-      let p : length old.peers.items + suc (length (dialers jobs)) ≤ vec_capacity old.peers = room.for_peers in
-      let e : length old.ears.items + suc (length (ears jobs)) ≤ vec_capacity old.ears = room.for_ears in
-      let q : length old.passes.items + suc (length (passes jobs)) ≤ vec_capacity old.passes = room.for_passes in
-      (omega (arith, p), omega (arith, e), omega (arith, q))
-
   -- a talker went back
   pub talker_returns : (n : ℕ) (dialer : D) (ear : E) (pass : Known Sections Entry)
       → AreWhole (Talks n dialer ear pass ∷ jobs) → HasRoom old (Talks n dialer ear pass ∷ jobs)
@@ -72,16 +48,6 @@ module _ {F S D E C : Type 0} (old new : Stock S D E) (jobs : List (Job F S D E 
         };
         files_stay = refl;
       }
-
-  -- there is room for what a reader and a replier have
-  pub pair_fits : (h slot last : ℕ) (spawner : S) (clock : C) (reading writing : Known Sections Entry)
-      → HasRoom old (Reads h spawner clock reading ∷ Replies slot last writing ∷ jobs)
-      → (length old.helpers.items < vec_capacity old.helpers)
-      × (length old.passes.items + 1 < vec_capacity old.passes)
-  pair_fits h slot last spawner clock reading writing room =
-      let s : length old.helpers.items + suc (length (spawners jobs)) ≤ vec_capacity old.helpers = room.for_helpers in
-      let q : length old.passes.items + suc (suc (length (passes jobs))) ≤ vec_capacity old.passes = room.for_passes in
-      (omega (arith, s), omega (arith, q))
 
   -- a reader and a replier went back
   pub pair_returns : (h slot last : ℕ) (spawner : S) (clock : C) (reading writing : Known Sections Entry)
@@ -114,12 +80,6 @@ module _ {F S D E C : Type 0} (old new : Stock S D E) (jobs : List (Job F S D E 
       }
 
   -- the keeper went back
-  pub keeper_fits : (files : F) (path : List ℕ) (slots : Slots) (pass : Known Sections Entry)
-      → HasRoom old (Keeps files path slots pass ∷ jobs) → length old.passes.items < vec_capacity old.passes
-  keeper_fits files path slots pass room =
-      let q : length old.passes.items + suc (length (passes jobs)) ≤ vec_capacity old.passes = room.for_passes in
-      omega (arith, q)
-
   pub keeper_returns : (files : F) (path : List ℕ) (slots : Slots) (pass : Known Sections Entry) → jobs ≡ []
       → PassMore old pass new → Gains old (Keeps files path slots pass ∷ jobs) new
   keeper_returns files path slots pass none more =
@@ -130,11 +90,6 @@ module _ {F S D E C : Type 0} (old new : Stock S D E) (jobs : List (Job F S D E 
         of_ears = more.same_ears ∙ sym (append-nil old.ears.items);
         of_passes = more.one_pass;
       })
-
-  pub keeper_files : (files : F) (path : List ℕ) (slots : Slots) (pass : Known Sections Entry) → jobs ≡ []
-      → files_of (Keeps files path slots pass ∷ jobs) ≡ files ∷ []
-  keeper_files files path slots pass none =
-      ap (λ (all : List (Job F S D E C)). files_of (Keeps files path slots pass ∷ all)) none
 
   -- nothing went back yet
   pub returns_none : AreWhole jobs → HasRoom old jobs → Returns old jobs old jobs

@@ -1,8 +1,7 @@
 -- How a run of the daemon ends.
-use Rattle.std.proofs.Common.{◌≡◌, ◌⊎◌, ℕ, ◌+◌, ◌<◌, ◌≤◌, Bool, true, false, List, [], ◌∷◌, Option, Some, None, refl}
-use Rattle.std.proofs.Common.{sym, ap}
-use Rattle.std.proofs.Common.{subst, ◌∙◌, inl, inr, arith, length}
-use Rattle.std.specs.Prelude.{All, IfNone, IfSome, reverse, slice_index_or}
+use Rattle.std.proofs.Common.{◌≡◌, ℕ, ◌+◌, ◌<◌, ◌≤◌, Bool, true, false, List, Option, Some, None, refl, sym, ap}
+use Rattle.std.proofs.Common.{subst, ◌∙◌, arith, length}
+use Rattle.std.specs.Prelude.{All, IfNone, IfSome, slice_index_or}
 use Rattle.outside.specs.Lent.{LendsNone}
 use Rattle.outside.specs.Opening.{IsContent}
 use Rattle.outside.specs.Refusals.{Refusals, is_refused}
@@ -12,8 +11,7 @@ use Rattle.config_model.specs.Sections.{Sections}
 use Rattle.config_model.specs.declared.slots.Slots.{Slots}
 use Rattle.config_files.specs.Configured.{IsConfigAt, IsNoneAt}
 use Rattle.book_gate.specs.Known.{TableId, first_known}
-use Rattle.book_gate_many.specs.Many.{IsAllJoined, IsMany}
-use Rattle.book_history.specs.Legal.{Allows}
+use Rattle.book_gate_many.specs.Many.{IsMany}
 use Rattle.book_history.specs.declared.outcomes.NotRead.{NotRead}
 use Rattle.book_history.specs.declared.outcomes.NotRead.TheVariants as not_read
 use Rattle.control_worker.proofs.LentLemmas.{lent_same}
@@ -39,10 +37,8 @@ module _ {F S D C P E : Type 0} where
 
 module _ {S D E : Type 0} where
   -- a stock of new passes and of the devices of all slots is full
-  pub full : (gate : TableId) (stock : Stock S D E) (helpers peers : ℕ)
-      → AreNew gate (workers helpers peers) stock.passes.items
-      → helpers ≡ length stock.helpers.items → peers ≡ length stock.peers.items
-      → length stock.helpers.items ≤ max_helpers
+  pub full : (gate : TableId) (stock : Stock S D E) (helpers peers : ℕ) → AreNew gate (workers helpers peers) stock.passes.items
+      → helpers ≡ length stock.helpers.items → peers ≡ length stock.peers.items → length stock.helpers.items ≤ max_helpers
       → length stock.peers.items ≤ max_peers → length stock.ears.items ≡ length stock.peers.items → IsFull gate stock
   full gate stock helpers peers new helpers_are peers_are few many ears = record {
     few_helpers = few;
@@ -73,8 +69,7 @@ module _ {F S D C P E : Type 0} (content : F → Option (List ℕ → List ℕ))
       → ((why ≡ not_read.ReadFault → ⊥) → faults files' ≡ faults old.files)
       → EndsAs content faults spawning dialling moments path old ends (record old { files = files' })
   unread path old files' slots why ends is are none counts same =
-      subst (λ (it : Status). EndsAs content faults spawning dialling moments path old it
-      (record old { files = files' }))
+      subst (λ (it : Status). EndsAs content faults spawning dialling moments path old it (record old { files = files' }))
       (sym is) (unread_for path old files' slots why are none counts same)
 
   -- what came of a world whose files had been read from came of it as it was
@@ -112,8 +107,7 @@ module _ {F S D C P E : Type 0} (content : F → Option (List ℕ → List ℕ))
         last = kept.last;
       }
 
-      at_status : (ends : Status) → EndsAs content faults spawning dialling moments path
-          (record old { files = files' }) ends new
+      at_status : (ends : Status) → EndsAs content faults spawning dialling moments path (record old { files = files' }) ends new
           → EndsAs content faults spawning dialling moments path old ends new
       at_status status.Ok (run, none) = (run_on run, none)
       at_status status.NoCrew (run, one, rose) = (run_on run, one, rose)
@@ -155,8 +149,7 @@ module _ {F S D C P E : Type 0} (content : F → Option (List ℕ → List ℕ))
     gates_back helpers' peers' files' helpers_back peers_back (Some every) same done k d below =
         let fresh = are_new gate start (workers slots.helpers slots.peers) opened later passes is many in
         let low : k < workers slots.helpers slots.peers = omega (arith, done.count, below, fresh.count_is) in
-        same_gate _ _ (made_at content faults lent spawning dialling (is_refused old.crew)
-        (moments old.clock) path slots
+        same_gate _ _ (made_at content faults lent spawning dialling (is_refused old.crew) (moments old.clock) path slots
         old.helpers.items helpers' old.peers.items peers' old.files files' passes passes' done
         (sym are.0) helpers_back (sym are.1) peers_back k d low) ∙ (fresh.each k d low).gate_is
 
@@ -164,11 +157,8 @@ module _ {F S D C P E : Type 0} (content : F → Option (List ℕ → List ℕ))
     pub files_back : (helpers' : List S) (peers' : List D) (files' : F) (all : Option Bool)
         → IfNone all (files' ≡ old.files) → IfSome all (λ every. AreDone helpers' peers' files')
         → (content files' ≡ content old.files) × LendsNone (lent old.files) (lent files')
-    files_back helpers' peers' files' None same done = (
-      ap content same,
-      subst (λ (it : F). LendsNone (lent old.files) (lent it)) (sym same) (lent_same
-          (lent old.files)),
-    )
+    files_back helpers' peers' files' None same done =
+        (ap content same, subst (λ (it : F). LendsNone (lent old.files) (lent it)) (sym same) (lent_same (lent old.files)))
     files_back helpers' peers' files' (Some every) same done =
         keeper_files content faults lent path slots old.files files' _ _
         (is_refused old.crew (slots.helpers + slots.helpers + slots.peers)) (done.keeper opened)

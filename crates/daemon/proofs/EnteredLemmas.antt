@@ -1,11 +1,9 @@
 -- Which worker made which entry.
-use Rattle.std.proofs.Common.{◌≡◌, ◌⊎◌, ℕ, zero, suc, ◌+◌, ◌<◌, Bool, true, false, List, [], ◌∷◌, ◌++◌, map, length}
-use Rattle.std.proofs.Common.{Option}
-use Rattle.std.proofs.Common.{refl, sym, ap, subst, ◌∙◌, inl, inr, arith}
-use Rattle.std.specs.Prelude.{Contains, replicate, slice_index_or}
+use Rattle.std.proofs.Common.{◌≡◌, ◌⊎◌, ℕ, ◌+◌, ◌<◌, Bool, true, false, List, [], ◌∷◌, ◌++◌, Option}
+use Rattle.std.proofs.Common.{refl, sym, ap, subst, ◌∙◌, inl, inr}
+use Rattle.std.specs.Prelude.{Contains}
 use Rattle.std.specs.List.{All, flat_map}
-use Rattle.std.proofs.lemmas.List.Elements.{All-append, All-cons, All-contains, All-head, All-nil, All-replicate}
-use Rattle.std.proofs.lemmas.List.Elements.{All-tail}
+use Rattle.std.proofs.lemmas.List.Elements.{All-append, All-cons, All-contains, All-head, All-nil, All-replicate, All-tail}
 use Rattle.std.proofs.lemmas.List.Elements.{All-weaker}
 use Rattle.outside.specs.Moments.{MayRead}
 use Rattle.config_model.specs.Sections.{Sections}
@@ -20,17 +18,15 @@ use Rattle.book_history.specs.Entries.{Entry}
 use Rattle.book_history.specs.Entries.Entry.{ControlAsked, HelperDeaf, HelperGone, LineEntered, PeerAsked, Reloaded}
 use Rattle.book_history.specs.Entries.Entry.{ReloadRefused, SpawnAsked, Stopped}
 use Rattle.book_history.specs.declared.outcomes.Control.TheVariants as control
-use Rattle.book_history.specs.declared.outcomes.NotRead.{NotRead}
 use Rattle.book_history.specs.declared.outcomes.Peer.TheVariants as peer
 use Rattle.book_history.specs.declared.outcomes.Spawn.TheVariants as spawn
 use Rattle.book_history.specs.declared.outcomes.Verdict.TheVariants as verdict
 use Rattle.control_worker.specs.Rounds.{IsFiled, due_told, stop_told, Round as Keeping, entries_of as kept_by}
 use Rattle.control_worker.specs.Rounds.Round.{Idle as KeptIdle, Loaded, Refused as NotLoaded}
 use Rattle.helper_worker.specs.Handing.{under, writer_of}
-use Rattle.helper_worker.specs.Lines.{Asked, LineRun, entries_for}
+use Rattle.helper_worker.specs.Lines.{Asked, entries_for}
 use Rattle.helper_worker.specs.Replies.{IsReplyOf}
-use Rattle.helper_worker.specs.Rounds.{IsOutcome, IsRound, Outcome, Told as Spawning, Round as Reading}
-use Rattle.helper_worker.specs.Rounds.{entries_of as read_by, made_by as made_in}
+use Rattle.helper_worker.specs.Rounds.{IsOutcome, IsRound, Outcome, Told as Spawning, Round as Reading, entries_of as read_by, made_by as made_in}
 use Rattle.helper_worker.specs.Rounds.Outcome.{Heard, Failed}
 use Rattle.helper_worker.specs.Rounds.Round.{Start, Idle as ReadIdle}
 use Rattle.helper_worker.specs.Serving.{IsServed, Served, entries_in}
@@ -41,8 +37,8 @@ use Rattle.peer_worker.specs.Rounds.Round.{Visit, Missed, Idle as TalkIdle}
 use Rattle.daemon.specs.Done.{IfRun}
 use Rattle.daemon.specs.Entered.{IsByWorker, IsOfKeeper, IsOfReader, IsOfReplier, IsOfTalker, MayEnter}
 use Rattle.daemon.specs.Names.{keeper_of, reader_of, talker_of, workers}
-use Rattle.daemon.specs.Runs.{Devices, IsCalledOff, IsReplierOff, IsRun, KeeperEnds, KeeperRan, ReaderEnds, ReaderRan}
-use Rattle.daemon.specs.Runs.{ReplierEnds, ReplierRan, TalkerEnds, TalkerRan, dialling_at, spawning_at}
+use Rattle.daemon.specs.Runs.{Devices, IsCalledOff, IsReplierOff, IsRun, KeeperRan, ReaderRan}
+use Rattle.daemon.specs.Runs.{ReplierRan, TalkerRan}
 use Rattle.daemon.proofs.JoinedLemmas.{stands_by}
 use Rattle.daemon.proofs.RanLemmas.{Which, which}
 
@@ -173,12 +169,8 @@ module _ (old new : Devices) (slots : Slots) (content : Option (List ℕ → Lis
   reader_enters : (h : ℕ) (off : Bool) (was now : Spawning) → IfRun off (ReaderRan h old.moments was now seen)
       (IsCalledOff (reader_of h) seen × (now ≡ was))
       → (all : List Entry) × (under (reader_of h) seen ≡ all) × All (MayEnter off (IsOfReader old.moments h)) all
-  reader_enters h false was now ran = (
-    _,
-    ran.made,
-    runs_fit (IsOfReader old.moments h) _
-        (reads_fit old.moments h ran.rounds ran.now ran.good ran.moment),
-  )
+  reader_enters h false was now ran =
+      (_, ran.made, runs_fit (IsOfReader old.moments h) _ (reads_fit old.moments h ran.rounds ran.now ran.good ran.moment))
   reader_enters h true was now off = (_, off.0, off_fits (IsOfReader old.moments h))
 
   replier_enters : (h : ℕ) (off : Bool) → IfRun off (ReplierRan h seen) (IsReplierOff h seen)
@@ -213,11 +205,9 @@ module _ (old new : Devices) (slots : Slots) (content : Option (List ℕ → Lis
 
 -- each entry is by a worker, under its name
 pub by_worker : (refused : ℕ → Bool) (old new : Devices) (content : Option (List ℕ → List ℕ)) (path : List ℕ)
-    (slots : Slots) (last : Known Sections Entry) → IsRun refused old new content path slots last
-    → (made : Signed Entry)
+    (slots : Slots) (last : Known Sections Entry) → IsRun refused old new content path slots last → (made : Signed Entry)
     → Contains last.seen made → IsByWorker refused old.moments content path slots made
-by_worker refused old new content path slots last run made has = of named.0 named.2
-    (which slots.helpers slots.peers named.0 named.1)
+by_worker refused old new content path slots last run made has = of named.0 named.2 (which slots.helpers slots.peers named.0 named.1)
   where
     named : (k : ℕ) × (k < workers slots.helpers slots.peers) × (made.name ≡ child_name [] k)
     named = run.history.named made has
@@ -246,8 +236,7 @@ by_worker refused old new content path slots last run made has = of named.0 name
         ))
     of k is (inr (inr (inl (n, low, at)))) =
         let name_is : made.name ≡ talker_of slots.helpers n = is ∙ ap (λ n. child_name [] n) at in
-        let enters = talker_enters old new slots content path last.seen n (refused
-        (slots.helpers + slots.helpers + n)) _ _ (run.talkers n low) in
+        let enters = talker_enters old new slots content path last.seen n (refused (slots.helpers + slots.helpers + n)) _ _ (run.talkers n low) in
         inr (inr (inl (
           n,
           low,
@@ -257,8 +246,7 @@ by_worker refused old new content path slots last run made has = of named.0 name
         )))
     of k is (inr (inr (inr at))) =
         let name_is : made.name ≡ keeper_of slots.helpers slots.peers = is ∙ ap (λ n. child_name [] n) at in
-        let enters = keeper_enters old new slots content path last.seen (refused
-        (slots.helpers + slots.helpers + slots.peers)) _ _ run.keeper in
+        let enters = keeper_enters old new slots content path last.seen (refused (slots.helpers + slots.helpers + slots.peers)) _ _ run.keeper in
         inr (inr (inr (
           name_is,
           fits_under (MayEnter (refused (slots.helpers + slots.helpers + slots.peers)) (IsOfKeeper content path slots))

@@ -9,7 +9,7 @@ use Rattle.std.proofs.lemmas.List.Elements.{Contains-append_cases}
 use mathlib.Core.List.{IsPrefix}
 use Rattle.book_gate.specs.Known.{TableId}
 use Rattle.book_gate.specs.declared.view.Signed.{Signed}
-use Rattle.book_gate.specs.Calls.{Continues, HasNamed, IsLater}
+use Rattle.book_gate.specs.Calls.{Continues, HasNamed}
 use Rattle.book_gate.specs.Histories.{Legal, entries, entries_by, is_name}
 use Rattle.book_gate.specs.Known.{Known, first_known}
 use Rattle.book_gate.specs.Names.{child_name}

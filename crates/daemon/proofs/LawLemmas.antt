@@ -1,32 +1,27 @@
 -- What follows of the history of a run.
-use Rattle.std.proofs.Common.{◌≡◌, ◌⊎◌, ℕ, zero, suc, ◌+◌, ◌-◌, ◌^◌, ◌<◌, ◌≤◌, Bool, true, false, true≢false, ◌||◌}
-use Rattle.std.proofs.Common.{cond}
-use Rattle.std.proofs.Common.{List, [], ◌∷◌, ◌++◌, map, length, Option, Some, refl, sym, ap, subst, ◌∙◌, inl, inr}
-use Rattle.std.proofs.Common.{⊎_elim, arith}
-use Rattle.std.specs.Prelude.{Contains, min, reverse, slice_index_or, Ok, Err, if◌then◌else◌}
+use Rattle.std.proofs.Common.{◌≡◌, ◌⊎◌, ℕ, ◌+◌, ◌-◌, ◌^◌, ◌<◌, ◌≤◌, Bool, true, false, true≢false, ◌||◌, cond}
+use Rattle.std.proofs.Common.{List, [], ◌∷◌, ◌++◌, Option, refl, sym, ap, subst, ◌∙◌, inl, inr, arith}
+use Rattle.std.specs.Prelude.{Contains, min, reverse, Ok, if◌then◌else◌}
 use Rattle.std.specs.List.{flat_map, list_any}
 use Rattle.std.proofs.Math.Nat.{min-le_left}
 use Rattle.std.proofs.lemmas.Bool.Decides.{nat_tests}
-use Rattle.std.proofs.lemmas.List.{append_assoc, map-append, reverse-append}
-use Rattle.std.proofs.lemmas.List.Concat.{flat_map-append}
+use Rattle.std.proofs.lemmas.List.{append_assoc, reverse-append}
 use Rattle.std.proofs.lemmas.List.Folds.{list_any-append}
 use mathlib.Core.List.{IsPrefix}
 use Rattle.command_grammar.specs.declared.command.Command.TheVariants as command
 use Rattle.config_model.specs.Sections.{Sections}
 use Rattle.config_model.specs.declared.slots.Slots.{Slots}
 use Rattle.outside.specs.Told.{counted}
-use Rattle.book_gate.specs.Calls.{IsLegal}
-use Rattle.book_gate.specs.Histories.{Legal, entries, entries_by, is_name}
+use Rattle.book_gate.specs.Histories.{entries, entries_by, is_name}
 use Rattle.book_gate.specs.Known.{Known}
 use Rattle.book_gate.specs.declared.view.Signed.{Signed}
 use Rattle.book_gate.proofs.HistoryLemmas.{entries-prefix, entries-push}
 use Rattle.book_gate.proofs.ListLemmas.{contains_cases, contains_here, contains_none, contains_there}
 use Rattle.book_history.specs.Entries.{Entry, History}
-use Rattle.book_history.specs.Entries.Entry.{ControlAsked, HelperDeaf, HelperGone, LineEntered, PeerAsked, SpawnAsked}
+use Rattle.book_history.specs.Entries.Entry.{ControlAsked, HelperDeaf, HelperGone, LineEntered}
 use Rattle.book_history.specs.Entries.Entry.{Stopped, WentDown}
 use Rattle.book_history.specs.Legal.{Allows, directed, is_reload_due}
 use Rattle.book_history.specs.Verdicts.{is_stopping}
-use Rattle.book_history.specs.declared.outcomes.Control.{Control}
 use Rattle.book_history.specs.declared.outcomes.Control.TheVariants as control
 use Rattle.book_history.specs.declared.outcomes.NotRead.TheVariants as not_read
 use Rattle.book_history.specs.declared.outcomes.Verdict.TheVariants as verdict
@@ -36,7 +31,7 @@ use Rattle.helper_worker.specs.Handing.{HasStop, IsAnswered, TookNothing, is_sto
 use Rattle.helper_worker.proofs.HandingLemmas.{any_stays, stop_stays}
 use Rattle.helper_worker.proofs.StayLemmas.{answers_stay}
 use Rattle.daemon.specs.Done.{IfRun}
-use Rattle.daemon.specs.Entered.{HasShutdown, IsByWorker, IsOfKeeper, IsOfReader, IsOfReplier, IsOfTalker, MayEnter}
+use Rattle.daemon.specs.Entered.{HasShutdown, IsByWorker, IsOfKeeper, IsOfReader, IsOfReplier, IsOfTalker}
 use Rattle.daemon.specs.Entered.{RoseBy, are_answered, is_shutdown, unread_in}
 use Rattle.daemon.specs.Laws.{IsOfSlot, NoneRefused, RunsAnswer, RunsCount, RunsEnd, RunsEnter, RunsName, RunsReload}
 use Rattle.daemon.specs.Laws.{RunsShutDown, RunsStop}
@@ -64,8 +59,7 @@ some_entry test [] any = absurd (true≢false (sym any))
 some_entry test (made ∷ seen) any = found_first test made seen (some_entry test seen) (test made.entry) refl any
 
 -- no worker's own entry ends the daemon
-reader_no_stop : (moments : Option (ℕ → Bool)) (h : ℕ) (entry : Entry) → IsOfReader moments h entry
-    → is_stop entry ≡ true → ⊥
+reader_no_stop : (moments : Option (ℕ → Bool)) (h : ℕ) (entry : Entry) → IsOfReader moments h entry → is_stop entry ≡ true → ⊥
 reader_no_stop moments h Stopped own is = own
 reader_no_stop moments h _ own is = true≢false (sym is)
 
@@ -77,8 +71,7 @@ talker_no_stop : (n : ℕ) (entry : Entry) → IsOfTalker n entry → is_stop en
 talker_no_stop n Stopped own is = own
 talker_no_stop n _ own is = true≢false (sym is)
 
-keeper_no_stop : (content : Option (List ℕ → List ℕ)) (path : List ℕ) (slots : Slots) (entry : Entry)
-    → IsOfKeeper content path slots entry
+keeper_no_stop : (content : Option (List ℕ → List ℕ)) (path : List ℕ) (slots : Slots) (entry : Entry) → IsOfKeeper content path slots entry
     → is_stop entry ≡ true → ⊥
 keeper_no_stop content path slots Stopped own is = own
 keeper_no_stop content path slots _ own is = true≢false (sym is)
@@ -123,8 +116,7 @@ talker_slot helpers n name is (HelperDeaf slot inc) own = absurd own
 talker_slot helpers n name is (WentDown slot) own = is ∙ ap (talker_of helpers) (sym own)
 talker_slot helpers n name is _ own = tt
 
-keeper_slot : (content : Option (List ℕ → List ℕ)) (path : List ℕ) (slots : Slots) (helpers : ℕ) (name : List ℕ)
-    (entry : Entry)
+keeper_slot : (content : Option (List ℕ → List ℕ)) (path : List ℕ) (slots : Slots) (helpers : ℕ) (name : List ℕ) (entry : Entry)
     → IsOfKeeper content path slots entry → IsOfSlot helpers entry name
 keeper_slot content path slots helpers name (HelperGone slot inc) own = absurd own
 keeper_slot content path slots helpers name (HelperDeaf slot inc) own = absurd own
@@ -155,8 +147,7 @@ rounds_answer (KeptIdle ∷ rounds) = rounds_answer rounds
 rounds_answer (Loaded new given ∷ rounds) = rounds_answer rounds
 rounds_answer (NotLoaded why ∷ rounds) = rounds_answer rounds
 
-keeper_answers : (content : Option (List ℕ
-    → List ℕ)) (path : List ℕ) (slots : Slots) (was now : ℕ) (seen : List (Signed Entry)) (off : Bool)
+keeper_answers : (content : Option (List ℕ → List ℕ)) (path : List ℕ) (slots : Slots) (was now : ℕ) (seen : List (Signed Entry)) (off : Bool)
     → IfRun off (KeeperRan content path slots was now seen)
     ((under (keeper_of slots.helpers slots.peers) seen ≡ Stopped ∷ []) × (now ≡ was))
     → are_answered false (under (keeper_of slots.helpers slots.peers) seen) ≡ true
@@ -190,8 +181,7 @@ rounds_count (NotLoaded not_read.ReadFault ∷ rounds) before =
 rounds_count (NotLoaded (not_read.Refused fault) ∷ rounds) before = rounds_count rounds before
 rounds_count (NotLoaded not_read.NoMemory ∷ rounds) before = rounds_count rounds before
 
-keeper_counts : (content : Option (List ℕ
-    → List ℕ)) (path : List ℕ) (slots : Slots) (was now : ℕ) (seen : List (Signed Entry)) (off : Bool)
+keeper_counts : (content : Option (List ℕ → List ℕ)) (path : List ℕ) (slots : Slots) (was now : ℕ) (seen : List (Signed Entry)) (off : Bool)
     → IfRun off (KeeperRan content path slots was now seen)
     ((under (keeper_of slots.helpers slots.peers) seen ≡ Stopped ∷ []) × (now ≡ was))
     → RoseBy (unread_in (under (keeper_of slots.helpers slots.peers) seen)) was now
@@ -248,8 +238,7 @@ any_reverse : (test : Entry → Bool) (H : List Entry) → list_any test (revers
 any_reverse test [] any = any
 any_reverse test (entry ∷ H) any =
     of (test entry) (list_any test (reverse H)) (any_reverse test H)
-    (sym (list_any-append test (reverse H) (entry ∷ [])) ∙ (ap (list_any test) (sym (reverse-append
-    (entry ∷ []) H)) ∙ any))
+    (sym (list_any-append test (reverse H) (entry ∷ [])) ∙ (ap (list_any test) (sym (reverse-append (entry ∷ []) H)) ∙ any))
   where
     of : (this those : Bool) → (those ≡ true → list_any test H ≡ true) → (those || (this || false)) ≡ true
         → (this || list_any test H) ≡ true
@@ -260,8 +249,7 @@ any_reverse test (entry ∷ H) any =
 -- where an entry stands
 split_first : (first : Signed Entry) (seen : List (Signed Entry)) (made : Signed Entry)
     → (Contains seen made → (before : List (Signed Entry)) × IsPrefix (before ++ made ∷ []) seen)
-    → (first ≡ made) ⊎ Contains seen made → (before : List (Signed Entry))
-    × IsPrefix (before ++ made ∷ []) (first ∷ seen)
+    → (first ≡ made) ⊎ Contains seen made → (before : List (Signed Entry)) × IsPrefix (before ++ made ∷ []) (first ∷ seen)
 split_first first seen made others (inl is) = ([], (seen, ap (λ (it : Signed Entry). it ∷ seen) (sym is)))
 split_first first seen made others (inr rest) =
     let found = others rest in

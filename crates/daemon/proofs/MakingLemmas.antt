@@ -1,16 +1,15 @@
 -- One job more, of the last of each list of a stock.
 use Rattle.std.proofs.Common.{ℕ, suc, ◌≡◌, ◌+◌, ◌<◌, List, [], ◌∷◌, ◌++◌, length, refl, ap, sym, subst, ◌∙◌}
 use Rattle.std.proofs.Common.{append_assoc, length-append, arith}
-use Rattle.std.specs.Prelude.{map, reverse, slice_index_or}
+use Rattle.std.specs.Prelude.{map, reverse}
 use Rattle.std.proofs.lemmas.List.{get_or_append_left, get_or_at, map-append, reverse-append}
 use Rattle.config_model.specs.Sections.{Sections}
-use Rattle.config_model.specs.declared.slots.Slots.{Slots}
 use Rattle.book_gate.specs.Known.{Known, TableId}
 use Rattle.book_history.specs.Entries.{Entry}
 use Rattle.crew.specs.Jobs.{Job}
-use Rattle.crew.specs.Jobs.Job.{Keeps, Reads, Replies, Talks}
+use Rattle.crew.specs.Jobs.Job.{Reads, Replies, Talks}
 use Rattle.daemon.specs.declared.stock.Stock.{Stock}
-use Rattle.daemon.specs.Laid.{AreFresh, Gains, HaveSame, HelpersLaid, IsFresh, TalkersLaid}
+use Rattle.daemon.specs.Laid.{AreFresh, HaveSame, HelpersLaid, IsFresh, TalkersLaid}
 use Rattle.daemon.specs.Laid.{dialers, ears, passes, spawners}
 use Rattle.daemon.specs.Making.{Moves, MovesHelpers, MovesPeers, PairMore, SameRoom, TalkerMore}
 

@@ -1,34 +1,28 @@
 -- From the jobs of a daemon to what its history says of them.
-use Rattle.std.proofs.Common.{◌≡◌, ◌⊎◌, ℕ, zero, suc, ◌+◌, ◌<◌, Bool, true, false, List, [], ◌∷◌, ◌++◌, map, length}
-use Rattle.std.proofs.Common.{Option}
-use Rattle.std.proofs.Common.{Some, None, refl, sym, ap, subst, ◌∙◌, inl, inr, arith}
-use Rattle.std.specs.Prelude.{Contains, reverse, slice_index_or}
+use Rattle.std.proofs.Common.{◌≡◌, ◌⊎◌, ℕ, zero, suc, ◌+◌, ◌<◌, Bool, true, false, List, [], ◌∷◌, ◌++◌, length, Option}
+use Rattle.std.proofs.Common.{None, refl, sym, ap, subst, inl, inr, arith}
+use Rattle.std.specs.Prelude.{reverse, slice_index_or}
 use Rattle.std.proofs.lemmas.List.{get_or-map}
 use mathlib.Core.List.{IsPrefix}
 use Rattle.outside.specs.Lent.{LendsNone}
-use Rattle.outside.specs.Moments.{MayRead}
 use Rattle.config_model.specs.Sections.{Sections}
 use Rattle.config_model.specs.declared.slots.Slots.{Slots}
 use Rattle.config_files.specs.Configured.{IsConfigAt}
-use Rattle.book_gate.specs.Histories.{entries, entries_by}
-use Rattle.book_gate.specs.Known.{Known, TableId, first_known}
+use Rattle.book_gate.specs.Known.{TableId, first_known}
 use Rattle.book_gate.specs.Names.{child_name}
 use Rattle.book_gate.specs.declared.view.Signed.{Signed}
 use Rattle.book_gate.proofs.ListLemmas.{prefix_trans}
 use Rattle.book_gate_many.specs.Many.{IsAllJoined, IsMany}
 use Rattle.book_history.specs.Entries.{Entry}
-use Rattle.book_history.specs.Entries.Entry.{Stopped}
 use Rattle.book_history.specs.Legal.{Allows}
 use Rattle.pass_entries.specs.Making.{Makes, own}
-use Rattle.control_worker.specs.Rounds.{Keeps, stop_told}
 use Rattle.helper_worker.specs.Handing.{under, writer_of}
-use Rattle.helper_worker.specs.Rounds.{Ends, IsBackBy, ReadsOut, Told as Spawning, told as spawning_told}
-use Rattle.helper_worker.specs.Serving.{CallsOff, Serves}
-use Rattle.peer_worker.specs.Rounds.{Talks, Told as Dialling, told as dialling_told, stopping}
+use Rattle.helper_worker.specs.Rounds.{Ends, IsBackBy, Told as Spawning, told as spawning_told}
+use Rattle.peer_worker.specs.Rounds.{Told as Dialling, told as dialling_told}
 use Rattle.daemon.specs.Done.{IfRun, JobsDone, KeeperDone, Pass, ReaderDone, ReplierDone, TalkerDone}
 use Rattle.daemon.specs.Names.{keeper_of, reader_of, talker_of, workers}
 use Rattle.control_worker.proofs.LentLemmas.{lent_same}
-use Rattle.daemon.specs.Runs.{Devices, IsCalledOff, IsHistory, IsReplierOff, IsRun, KeeperRan, ReaderRan, ReplierRan}
+use Rattle.daemon.specs.Runs.{IsCalledOff, IsReplierOff, IsRun, KeeperRan, ReaderRan, ReplierRan}
 use Rattle.daemon.specs.Runs.{TalkerRan, devices, dialling_at, spawning_at}
 use Rattle.daemon.proofs.JoinedLemmas.{WereMade, AreNew, all_legal, all_named, are_new, made_by, same_start, still}
 
@@ -228,12 +222,8 @@ module _ {F S D : Type 0} (content : F → Option (List ℕ → List ℕ)) (faul
       name = (news.each k q below).name;
       none = (news.each k q below).own;
       left = λ made makes.
-          (made_by (λ start entries entry. Allows start (reverse entries) entry) gate start
-          (workers slots.helpers slots.peers) opened later last passes passes' is many were all k q made below
-          makes).0;
-      front = (made_by (λ start entries entry. Allows start (reverse entries) entry) gate start
-          (workers slots.helpers slots.peers) opened later last passes passes' is many were all k q _ below
-          (made_at k q below).1).1;
+          (made_by (λ start entries entry. Allows start (reverse entries) entry) gate start (workers slots.helpers slots.peers) opened later last passes passes' is many were all k q made below makes).0;
+      front = (made_by (λ start entries entry. Allows start (reverse entries) entry) gate start (workers slots.helpers slots.peers) opened later last passes passes' is many were all k q _ below (made_at k q below).1).1;
     }
 
     pub is_run : IsRun refused (devices spawning dialling moments helpers peers (faults files))
@@ -242,20 +232,15 @@ module _ {F S D : Type 0} (content : F → Option (List ℕ → List ℕ)) (faul
       history = record {
         config = start;
         configured = config;
-        start = same_start (λ start entries entry. Allows start (reverse entries) entry) gate start
-            (workers slots.helpers slots.peers) opened later last passes passes' is many were all;
-        legal = all_legal (λ start entries entry. Allows start (reverse entries) entry) gate start
-            (workers slots.helpers slots.peers) opened later last passes passes' is many were all;
-        named = all_named (λ start entries entry. Allows start (reverse entries) entry) gate start
-            (workers slots.helpers slots.peers) opened later last passes passes' is many were all;
+        start = same_start (λ start entries entry. Allows start (reverse entries) entry) gate start (workers slots.helpers slots.peers) opened later last passes passes' is many were all;
+        legal = all_legal (λ start entries entry. Allows start (reverse entries) entry) gate start (workers slots.helpers slots.peers) opened later last passes passes' is many were all;
+        named = all_named (λ start entries entry. Allows start (reverse entries) entry) gate start (workers slots.helpers slots.peers) opened later last passes passes' is many were all;
       };
       readers = λ h low.
           let s = some_item helpers h (omega arith) in
           subst (λ (told : Spawning). IfRun (refused (h + h))
-          (ReaderRan h moments told (spawning_at (devices spawning dialling moments helpers' peers'
-          (faults files')) h) last.seen)
-          (IsCalledOff (reader_of h) last.seen × (spawning_at (devices spawning dialling moments helpers' peers'
-          (faults files')) h ≡ told)))
+          (ReaderRan h moments told (spawning_at (devices spawning dialling moments helpers' peers' (faults files')) h) last.seen)
+          (IsCalledOff (reader_of h) last.seen × (spawning_at (devices spawning dialling moments helpers' peers' (faults files')) h ≡ told)))
           (sym (get_or-map spawning helpers h s (spawning_told None None None) (omega arith)))
           (subst (λ (told : Spawning). IfRun (refused (h + h))
           (ReaderRan h moments (spawning (slice_index_or helpers h s)) told last.seen)
@@ -269,10 +254,8 @@ module _ {F S D : Type 0} (content : F → Option (List ℕ → List ℕ)) (faul
       talkers = λ n low.
           let d = some_item peers n (omega arith) in
           subst (λ (told : Dialling). IfRun (refused (slots.helpers + slots.helpers + n))
-          (TalkerRan slots.helpers n told (dialling_at (devices spawning dialling moments helpers' peers'
-          (faults files')) n) last.seen)
-          (IsCalledOff (talker_of slots.helpers n) last.seen
-          × (dialling_at (devices spawning dialling moments helpers' peers' (faults files')) n ≡ told)))
+          (TalkerRan slots.helpers n told (dialling_at (devices spawning dialling moments helpers' peers' (faults files')) n) last.seen)
+          (IsCalledOff (talker_of slots.helpers n) last.seen × (dialling_at (devices spawning dialling moments helpers' peers' (faults files')) n ≡ told)))
           (sym (get_or-map dialling peers n d (dialling_told None None None) (omega arith)))
           (subst (λ (told : Dialling). IfRun (refused (slots.helpers + slots.helpers + n))
           (TalkerRan slots.helpers n (dialling (slice_index_or peers n d)) told last.seen)

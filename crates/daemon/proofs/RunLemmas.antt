@@ -1,6 +1,5 @@
 -- From a full stock over its jobs' work to a full stock again.
 use Rattle.std.proofs.Common.{ℕ, ◌≡◌, ◌++◌, ◌∙◌, Bool, List, [], ◌∷◌, length, sym, ap, ap₂, subst}
-use Rattle.std.specs.List.{AllZip}
 use Rattle.std.specs.declared.option.Option.{Option}
 use Rattle.config_model.specs.declared.slots.Slots.{Slots}
 use Rattle.book_gate.specs.Known.{TableId}

@@ -1,6 +1,5 @@
 -- Steps of making, seen in places that are pushed to.
 use Rattle.std.proofs.Common.{ℕ, ◌≡◌, ◌+◌, ◌≤◌, List, [], ◌∷◌, ◌++◌, length, ap, sym, subst, ◌∙◌, arith}
-use Rattle.std.proofs.Common.{length-append}
 use Rattle.std.specs.Prelude.{map, reverse}
 use Rattle.std.proofs.lemmas.List.{length-map, length-reverse}
 use Rattle.crew.specs.Jobs.{Job}

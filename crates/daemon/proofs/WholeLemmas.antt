@@ -1,11 +1,10 @@
 -- All jobs of a stock: the keeper, and the others in front of it.
-use Rattle.std.proofs.Common.{ℕ, suc, ◌≡◌, ◌+◌, ◌≤◌, ◌<◌, List, [], ◌∷◌, ◌++◌, length, refl, ap, sym, subst, ◌∙◌, arith}
+use Rattle.std.proofs.Common.{ℕ, suc, ◌≡◌, ◌+◌, ◌≤◌, List, [], ◌∷◌, length, ap, sym, subst, ◌∙◌, arith}
 use Rattle.std.specs.Prelude.{map, reverse}
 use Rattle.config_model.specs.Limits.{max_helpers, max_peers}
 use Rattle.config_model.specs.declared.slots.Slots.{Slots}
 use Rattle.book_gate.specs.Known.{TableId}
 use Rattle.crew.specs.Jobs.{Job}
-use Rattle.crew.specs.Jobs.Job.{Keeps}
 use Rattle.daemon.specs.declared.stock.Stock.{Stock}
 use Rattle.daemon.specs.Laid.{AreFresh, AreWhole, Gains, HasRoom, HaveSame, IsFull, IsLaid, files_of}
 use Rattle.daemon.specs.Making.{IsKept, Lays, Moves, SameRoom}

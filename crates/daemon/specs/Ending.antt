@@ -1,6 +1,6 @@
 -- How a run of the daemon ends, by its status: what is then true of the world that it was given, and of the one that it
 -- gives back.
-use Rattle.std.specs.Prelude.{ℕ, ◌≡◌, ◌⊎◌, ◌+◌, ⊤, Bool, true, false, List, [], ◌∷◌, length, reverse, codes}
+use Rattle.std.specs.Prelude.{ℕ, ◌≡◌, Bool, true, false, List, [], ◌∷◌, length, reverse, codes}
 use Rattle.std.specs.declared.option.Option.{Option}
 use Rattle.std.specs.declared.option.Option.TheVariants.{Some, None}
 use Rattle.outside.specs.Lent.{LendsNone}

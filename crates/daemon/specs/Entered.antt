@@ -1,6 +1,5 @@
 -- Which worker made which entry of a history, and which of them stand behind which.
-use Rattle.std.specs.Prelude.{ℕ, ◌≡◌, ◌⊎◌, ◌+◌, ◌-◌, ◌^◌, ◌≤◌, ◌<◌, ⊤, min, not, Bool, true, false, List, [], ◌∷◌, ◌++◌}
-use Rattle.std.specs.Prelude.{reverse, Contains, Ok}
+use Rattle.std.specs.Prelude.{ℕ, ◌≡◌, ◌⊎◌, ◌+◌, ◌-◌, ◌^◌, ◌≤◌, ◌<◌, ⊤, min, not, Bool, true, false, List, [], ◌∷◌, ◌++◌, Ok}
 use Rattle.std.specs.List.{list_any}
 use Rattle.std.specs.declared.option.Option.{Option}
 use Rattle.config_model.specs.declared.slots.Slots.{Slots}
@@ -15,10 +14,8 @@ use Rattle.book_history.specs.Entries.Entry.{CameUp, WentDown, RefreshAsked, Mes
 use Rattle.book_history.specs.Entries.Entry.{ReloadRefused, Stopped}
 use Rattle.book_history.specs.declared.outcomes.Control.TheVariants as control
 use Rattle.book_history.specs.declared.outcomes.NotRead.TheVariants as not_read
-use Rattle.book_history.specs.declared.outcomes.Peer.TheVariants as peer
-use Rattle.book_history.specs.declared.outcomes.Spawn.TheVariants as spawn
 use Rattle.book_history.specs.declared.outcomes.Verdict.TheVariants as verdict
-use Rattle.helper_worker.specs.Handing.{under, writer_of}
+use Rattle.helper_worker.specs.Handing.{writer_of}
 use Rattle.daemon.specs.Names.{keeper_of, reader_of, talker_of}
 
 -- the entries of a slot's reader: whether a helper is to be started, asked at a moment that the clock may read, its

@@ -1,5 +1,5 @@
 -- What follows of the history of a run, whichever it is.
-use Rattle.std.specs.Prelude.{ℕ, ◌≡◌, ◌⊎◌, ◌+◌, ◌<◌, ⊤, Bool, true, false, List, Contains}
+use Rattle.std.specs.Prelude.{ℕ, ◌≡◌, ◌<◌, ⊤, Bool, true, false, List, Contains}
 use Rattle.std.specs.declared.option.Option.{Option}
 use Rattle.config_model.specs.Sections.{Sections}
 use Rattle.config_model.specs.declared.slots.Slots.{Slots}

@@ -1,6 +1,6 @@
 -- The names of the workers' passes, which are split off the gate's first pass in this order: those of a reader and a
 -- replier for each helper slot, of a talker for each neighbour slot, of the keeper.
-use Rattle.std.specs.Prelude.{ℕ, ◌≡◌, ◌+◌, ◌<◌, ◌⊎◌, [], List}
+use Rattle.std.specs.Prelude.{ℕ, ◌≡◌, ◌+◌, ◌<◌, [], List}
 use Rattle.book_gate.specs.Names.{child_name}
 
 abbrev pub reader_of : ℕ → List ℕ

@@ -1,7 +1,6 @@
 use Rattle.std.proofs.Common.{sym, ◌∙◌}
 use Rattle.helper_worker.specs.Rounds.{told as told_by}
 use Rattle.peer_worker.specs.Rounds.{told}
-use Rattle.control_worker.proofs.LentLemmas.{lent_same}
 use Rattle.daemon.proofs.AnswerLemmas.{by_path, completes, no_usage, refuses}
 use Rattle.daemon.proofs.run.exabgp_run.Goals as goal
 
