@@ -45,7 +45,8 @@ no_fault apart (Some content) path slots fault has is =
     (subst (λ (bytes : List ℕ). IsFirstFault bytes slots fault) (sym is.are) is.first)
 
 module _ {F S D C P E : Type 0} (content : F → Option (List ℕ → List ℕ)) (faults : F → ℕ) (spawning : S → Spawning)
-    (dialling : D → Dialling) (moments : C → Option (ℕ → Bool)) (path : List ℕ) (old : World F S D C P E) (ends : Status)
+    (dialling : D → Dialling) (moments : C → Option (ℕ
+    → Bool)) (path : List ℕ) (old : World F S D C P E) (ends : Status)
     (new : World F S D C P E) where
   -- words that name a path are used
   pub no_usage : EndsAs content faults spawning dialling moments path old ends new → ends ≡ status.Usage → ⊥
@@ -57,7 +58,8 @@ module _ {F S D C P E : Type 0} (content : F → Option (List ℕ → List ℕ))
       → EndsAs content faults spawning dialling moments path old ends new
       → EndsAs content faults spawning dialling moments other old ends new
   by_path other same is =
-      subst (λ (it : List ℕ). EndsAs content faults spawning dialling moments it old ends new) (one_path path other same) is
+      subst (λ (it : List ℕ). EndsAs content faults spawning dialling moments it old ends new)
+      (one_path path other same) is
 
 module _ {F S D C P E : Type 0} (content : F → Option (List ℕ → List ℕ)) (faults : F → ℕ) (spawning : S → Spawning)
     (dialling : D → Dialling) (moments : C → Option (ℕ → Bool)) (path : List ℕ) (old new : World F S D C P E)
@@ -70,7 +72,8 @@ module _ {F S D C P E : Type 0} (content : F → Option (List ℕ → List ℕ))
   refuses once apart fault has status.Ok is = absurd (no_both apart (content old.files) path is.0.slots
       is.0.run.history.config fault (has is.0.slots is.0.slots_are) is.0.run.history.configured)
   refuses once apart fault has status.NoCrew is = absurd (crewed is.2)
-  refuses once apart fault has status.ConfigRead is = absurd (quiet (count_rose (faults old.files) (faults new.files) is.1))
+  refuses once apart fault has status.ConfigRead is = absurd (quiet (count_rose (faults old.files)
+      (faults new.files) is.1))
   refuses once apart fault has (status.ConfigRefused other) is =
       inl (ap status.ConfigRefused (no_other once (content old.files) path is.2.0 fault other
       (has is.2.0 is.2.1) is.2.2))

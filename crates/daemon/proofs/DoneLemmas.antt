@@ -1,5 +1,6 @@
 -- What became of jobs that were laid out, each of which was done or called off.
-use Rattle.std.proofs.Common.{ℕ, ◌≡◌, ◌+◌, ◌∙◌, Bool, true, false, suc, List, [], ◌∷◌, length, get_or, drop, sym, ap, subst, subst₂, arith, zero-add, get_or-drop, refl}
+use Rattle.std.proofs.Common.{ℕ, ◌≡◌, ◌+◌, ◌∙◌, Bool, true, false, suc, List, [], ◌∷◌, length, get_or, drop, sym, ap}
+use Rattle.std.proofs.Common.{subst, subst₂, arith, zero-add, get_or-drop, refl}
 use Rattle.std.specs.List.{AllZip}
 use Rattle.std.specs.declared.option.Option.{Option}
 use Rattle.config_model.specs.declared.slots.Slots.{Slots}
@@ -10,10 +11,12 @@ use Rattle.crew.specs.Jobs.Job.{Keeps, Reads, Replies, Talks}
 use Rattle.crew.specs.Works.{AllGo, Goes}
 use Rattle.daemon.specs.Done.{JobsDone, KeeperDone, Pass, ReaderDone, ReplierDone, TalkerDone}
 use Rattle.daemon.specs.Laid.{HelpersLaid, IsAlike, KeeperLaid, TalkersLaid, dialers, files_of, passes, spawners}
-use Rattle.daemon.proofs.OrderLemmas.{HelpersEnd, KeeperEnds, TalkersEnd, behind_helpers, behind_talkers, helpers_count, readers_at, repliers_at, talkers_at}
+use Rattle.daemon.proofs.OrderLemmas.{HelpersEnd, KeeperEnds, TalkersEnd, behind_helpers, behind_talkers, helpers_count}
+use Rattle.daemon.proofs.OrderLemmas.{readers_at, repliers_at, talkers_at}
 
 -- what is said of each kind, by the numbers that are refused
-abbrev OfReader : {S C : Type 0} → (S → Spawning) → (C → Option (ℕ → Bool)) → (ℕ → Bool) → C → ℕ → S → S → Pass → Pass → Type 0
+abbrev OfReader : {S C : Type 0} → (S → Spawning) → (C → Option (ℕ → Bool)) → (ℕ → Bool) → C → ℕ → S → S → Pass
+    → Pass → Type 0
 OfReader spawning moments refused clock h = ReaderDone spawning (refused (h + h)) h (moments clock)
 
 abbrev OfReplier : (ℕ → Bool) → ℕ → Pass → Pass → Type 0
@@ -47,7 +50,8 @@ module _ {F S D E C : Type 0} (content : F → Option (List ℕ → List ℕ)) (
       (goes_alike (refused i) old new go.0, all_alike refused (suc i) olds news go.1)
 
   -- what a reader is afterwards
-  pub record ReaderEnded (off : Bool) (h : ℕ) (spawner : S) (clock : C) (pass : Pass) (new : Job F S D E C) : Type 0 where
+  pub record ReaderEnded (off : Bool) (h : ℕ) (spawner : S) (clock : C) (pass : Pass)
+      (new : Job F S D E C) : Type 0 where
     pub slot : ℕ
     pub spawner' : S
     pub clock' : C
@@ -128,19 +132,22 @@ module _ {F S D E C : Type 0} (content : F → Option (List ℕ → List ℕ)) (
         → AllGo content faults lent spawning dialling moments refused i olds news → files_of news ≡ files' ∷ []
         → (dialers news ≡ []) × (spawners news ≡ [])
         × KeeperEnds (OfReader spawning moments refused clock) (OfReplier refused) (OfTalker dialling refused helpers)
-        (KeeperDone content faults lent (refused (helpers + helpers + peers)) path slots files files') given (passes news)
+        (KeeperDone content faults lent (refused (helpers + helpers + peers)) path slots files files') given
+        (passes news)
     keeper_ends i olds news given at laid go back =
         subst (λ it. (dialers news ≡ []) × (spawners news ≡ [])
         × KeeperEnds (OfReader spawning moments refused clock) (OfReplier refused) (OfTalker dialling refused helpers)
         (KeeperDone content faults lent (refused (helpers + helpers + peers)) path slots files files') it (passes news))
         (sym laid.2)
-        (alone news (subst (λ it. AllGo content faults lent spawning dialling moments refused i it news) laid.1 go) back)
+        (alone news (subst (λ it. AllGo content faults lent spawning dialling moments refused i it news) laid.1 go)
+        back)
       where
         alone : (news : List (Job F S D E C))
             → AllGo content faults lent spawning dialling moments refused i (Keeps files path slots laid.0 ∷ []) news
             → files_of news ≡ files' ∷ []
             → (dialers news ≡ []) × (spawners news ≡ [])
-            × KeeperEnds (OfReader spawning moments refused clock) (OfReplier refused) (OfTalker dialling refused helpers)
+            × KeeperEnds (OfReader spawning moments refused clock) (OfReplier refused)
+            (OfTalker dialling refused helpers)
             (KeeperDone content faults lent (refused (helpers + helpers + peers)) path slots files files') (laid.0 ∷ [])
             (passes news)
         alone (new ∷ []) go back =
@@ -148,13 +155,16 @@ module _ {F S D E C : Type 0} (content : F → Option (List ℕ → List ℕ)) (
             let same : k.files' ∷ [] ≡ files' ∷ [] = subst (λ it. files_of (it ∷ []) ≡ files' ∷ []) k.is back in
             let its : k.files' ≡ files' = cc in
             subst (λ it. (dialers (it ∷ []) ≡ []) × (spawners (it ∷ []) ≡ [])
-            × KeeperEnds (OfReader spawning moments refused clock) (OfReplier refused) (OfTalker dialling refused helpers)
+            × KeeperEnds (OfReader spawning moments refused clock) (OfReplier refused)
+            (OfTalker dialling refused helpers)
             (KeeperDone content faults lent (refused (helpers + helpers + peers)) path slots files files') (laid.0 ∷ [])
             (passes (it ∷ []))) (sym k.is) (
               refl,
               refl,
-              subst (λ number. KeeperDone content faults lent (refused number) path slots files files' laid.0 k.later) at
-                  (subst (λ it. KeeperDone content faults lent (refused i) path slots files it laid.0 k.later) its k.done),
+              subst (λ number. KeeperDone content faults lent
+                  (refused number) path slots files files' laid.0 k.later) at
+                  (subst (λ it. KeeperDone content faults lent
+                  (refused i) path slots files it laid.0 k.later) its k.done),
             )
         alone [] go back = absurd go
         alone (new ∷ other ∷ news) go back = absurd go.1
@@ -173,7 +183,8 @@ module _ {F S D E C : Type 0} (content : F → Option (List ℕ → List ℕ)) (
           k.1,
           subst (λ it. TalkersEnd (OfReader spawning moments refused clock) (OfReplier refused)
               (OfTalker dialling refused helpers)
-              (KeeperDone content faults lent (refused (helpers + helpers + peers)) path slots files files') n [] it given
+              (KeeperDone content faults lent (refused (helpers + helpers + peers)) path slots files files') n [] it
+              given
               (passes news)) (sym k.0) k.2,
         )
     talkers_end n i (d ∷ ds) (e ∷ es) (old ∷ olds) (new ∷ news) (pass ∷ given) at count laid go back =
@@ -210,7 +221,8 @@ module _ {F S D E C : Type 0} (content : F → Option (List ℕ → List ℕ)) (
         (OfTalker dialling refused helpers)
         (KeeperDone content faults lent (refused (helpers + helpers + peers)) path slots files files') ds (dialers news)
         h [] it given (passes news)) (sym t.0) t.1
-    helpers_end ds es h i (s ∷ ss) (old ∷ other ∷ olds) (new ∷ next ∷ news) (pass ∷ behind ∷ given) at count many laid go back =
+    helpers_end ds es h i (s ∷ ss) (old ∷ other ∷ olds) (new ∷ next ∷ news)
+        (pass ∷ behind ∷ given) at count many laid go back =
         let r = reader_ended (refused i) h s clock pass new
         (subst (λ it. Goes content faults lent spawning dialling moments (refused i) it new) laid.0 go.0) in
         let w = replier_ended (refused (suc i)) h behind next
@@ -239,7 +251,8 @@ module _ {F S D E C : Type 0} (content : F → Option (List ℕ → List ℕ)) (
     helpers_end ds es h i (s ∷ ss) (old ∷ []) news given at count many laid go back = absurd laid
     helpers_end ds es h i (s ∷ ss) (old ∷ other ∷ olds) news [] at count many laid go back = absurd laid
     helpers_end ds es h i (s ∷ ss) (old ∷ other ∷ olds) news (pass ∷ []) at count many laid go back = absurd laid
-    helpers_end ds es h i (s ∷ ss) (old ∷ other ∷ olds) [] (pass ∷ behind ∷ given) at count many laid go back = absurd go
+    helpers_end ds es h i (s ∷ ss) (old ∷ other ∷ olds) []
+        (pass ∷ behind ∷ given) at count many laid go back = absurd go
     helpers_end ds es h i (s ∷ ss) (old ∷ other ∷ olds) (new ∷ []) (pass ∷ behind ∷ given) at count many laid go back =
         absurd go.1
 
@@ -259,12 +272,14 @@ module _ {F S D E C : Type 0} (content : F → Option (List ℕ → List ℕ)) (
     repliers = λ h q lt. subst (λ n. W n (get_or given (h + h + 1) q) (get_or (passes news) (h + h + 1) q)) (zero-add h)
         (repliers_at R W T K ds (dialers news) 0 ss (spawners news) given (passes news) h q ends (omega arith));
     talkers = λ n d q lt. subst (λ k. T k (get_or ds n d) (get_or (dialers news) n d)
-        (get_or given (slots.helpers + slots.helpers + n) q) (get_or (passes news) (slots.helpers + slots.helpers + n) q))
+        (get_or given (slots.helpers + slots.helpers + n) q) (get_or (passes news)
+        (slots.helpers + slots.helpers + n) q))
         (zero-add n)
         (subst₂ (λ p p'. T (0 + n) (get_or ds n d) (get_or (dialers news) n d) p p') (dropped given n q)
         (dropped (passes news) n q)
         (talkers_at R W T K 0 ds (dialers news) _ _ n d q tail (omega arith)));
-    keeper = λ q. subst₂ K (dropped given (length ds) q ∙ ap (λ k. get_or given (slots.helpers + slots.helpers + k) q) (sym few))
+    keeper = λ q. subst₂ K (dropped given (length ds) q ∙ ap (λ k. get_or given
+        (slots.helpers + slots.helpers + k) q) (sym few))
         (dropped (passes news) (length ds) q
         ∙ ap (λ k. get_or (passes news) (slots.helpers + slots.helpers + k) q) (sym few))
         (behind_talkers R W T K 0 ds (dialers news) _ _ q tail);
@@ -287,7 +302,8 @@ module _ {F S D E C : Type 0} (content : F → Option (List ℕ → List ℕ)) (
           helpers_end refused clock path slots slots.helpers slots.peers files files' ds es 0 0 ss olds news given refl
           (zero-add (length ss) ∙ sym many) (sym few) laid go back
 
-      tail : TalkersEnd R W T K 0 ds (dialers news) (drop (length ss + length ss) given) (drop (length ss + length ss) (passes news))
+      tail : TalkersEnd R W T K 0 ds (dialers news) (drop (length ss + length ss) given) (drop
+          (length ss + length ss) (passes news))
       tail = behind_helpers R W T K ds (dialers news) 0 ss (spawners news) given (passes news) ends
 
       dropped : (all : List Pass) (i : ℕ) (q : Pass)

@@ -37,8 +37,10 @@ module _ {F S D C P E : Type 0} where
 
 module _ {S D E : Type 0} where
   -- a stock of new passes and of the devices of all slots is full
-  pub full : (gate : TableId) (stock : Stock S D E) (helpers peers : ℕ) → AreNew gate (workers helpers peers) stock.passes.items
-      → helpers ≡ length stock.helpers.items → peers ≡ length stock.peers.items → length stock.helpers.items ≤ max_helpers
+  pub full : (gate : TableId) (stock : Stock S D E) (helpers peers : ℕ)
+      → AreNew gate (workers helpers peers) stock.passes.items
+      → helpers ≡ length stock.helpers.items → peers ≡ length stock.peers.items
+      → length stock.helpers.items ≤ max_helpers
       → length stock.peers.items ≤ max_peers → length stock.ears.items ≡ length stock.peers.items → IsFull gate stock
   full gate stock helpers peers new helpers_are peers_are few many ears = record {
     few_helpers = few;
@@ -69,7 +71,8 @@ module _ {F S D C P E : Type 0} (content : F → Option (List ℕ → List ℕ))
       → ((why ≡ not_read.ReadFault → ⊥) → faults files' ≡ faults old.files)
       → EndsAs content faults spawning dialling moments path old ends (record old { files = files' })
   unread path old files' slots why ends is are none counts same =
-      subst (λ (it : Status). EndsAs content faults spawning dialling moments path old it (record old { files = files' }))
+      subst (λ (it : Status). EndsAs content faults spawning dialling moments path old it
+      (record old { files = files' }))
       (sym is) (unread_for path old files' slots why are none counts same)
 
   -- what came of a world whose files had been read from came of it as it was
@@ -107,7 +110,8 @@ module _ {F S D C P E : Type 0} (content : F → Option (List ℕ → List ℕ))
         last = kept.last;
       }
 
-      at_status : (ends : Status) → EndsAs content faults spawning dialling moments path (record old { files = files' }) ends new
+      at_status : (ends : Status) → EndsAs content faults spawning dialling moments path
+          (record old { files = files' }) ends new
           → EndsAs content faults spawning dialling moments path old ends new
       at_status status.Ok (run, none) = (run_on run, none)
       at_status status.NoCrew (run, one, rose) = (run_on run, one, rose)
@@ -149,7 +153,8 @@ module _ {F S D C P E : Type 0} (content : F → Option (List ℕ → List ℕ))
     gates_back helpers' peers' files' helpers_back peers_back (Some every) same done k d below =
         let fresh = are_new gate start (workers slots.helpers slots.peers) opened later passes is many in
         let low : k < workers slots.helpers slots.peers = omega (arith, done.count, below, fresh.count_is) in
-        same_gate _ _ (made_at content faults lent spawning dialling (is_refused old.crew) (moments old.clock) path slots
+        same_gate _ _ (made_at content faults lent spawning dialling (is_refused old.crew)
+        (moments old.clock) path slots
         old.helpers.items helpers' old.peers.items peers' old.files files' passes passes' done
         (sym are.0) helpers_back (sym are.1) peers_back k d low) ∙ (fresh.each k d low).gate_is
 
@@ -157,8 +162,11 @@ module _ {F S D C P E : Type 0} (content : F → Option (List ℕ → List ℕ))
     pub files_back : (helpers' : List S) (peers' : List D) (files' : F) (all : Option Bool)
         → IfNone all (files' ≡ old.files) → IfSome all (λ every. AreDone helpers' peers' files')
         → (content files' ≡ content old.files) × LendsNone (lent old.files) (lent files')
-    files_back helpers' peers' files' None same done =
-        (ap content same, subst (λ (it : F). LendsNone (lent old.files) (lent it)) (sym same) (lent_same (lent old.files)))
+    files_back helpers' peers' files' None same done = (
+      ap content same,
+      subst (λ (it : F). LendsNone (lent old.files) (lent it)) (sym same) (lent_same
+          (lent old.files)),
+    )
     files_back helpers' peers' files' (Some every) same done =
         keeper_files content faults lent path slots old.files files' _ _
         (is_refused old.crew (slots.helpers + slots.helpers + slots.peers)) (done.keeper opened)

@@ -3,7 +3,8 @@ use Rattle.std.proofs.Common.{◌≡◌, ◌⊎◌, ℕ, ◌+◌, ◌<◌, Bool,
 use Rattle.std.proofs.Common.{refl, sym, ap, subst, ◌∙◌, inl, inr}
 use Rattle.std.specs.Prelude.{Contains}
 use Rattle.std.specs.List.{All, flat_map}
-use Rattle.std.proofs.lemmas.List.Elements.{All-append, All-cons, All-contains, All-head, All-nil, All-replicate, All-tail}
+use Rattle.std.proofs.lemmas.List.Elements.{All-append, All-cons, All-contains, All-head, All-nil, All-replicate}
+use Rattle.std.proofs.lemmas.List.Elements.{All-tail}
 use Rattle.std.proofs.lemmas.List.Elements.{All-weaker}
 use Rattle.outside.specs.Moments.{MayRead}
 use Rattle.config_model.specs.Sections.{Sections}
@@ -26,7 +27,8 @@ use Rattle.control_worker.specs.Rounds.Round.{Idle as KeptIdle, Loaded, Refused 
 use Rattle.helper_worker.specs.Handing.{under, writer_of}
 use Rattle.helper_worker.specs.Lines.{Asked, entries_for}
 use Rattle.helper_worker.specs.Replies.{IsReplyOf}
-use Rattle.helper_worker.specs.Rounds.{IsOutcome, IsRound, Outcome, Told as Spawning, Round as Reading, entries_of as read_by, made_by as made_in}
+use Rattle.helper_worker.specs.Rounds.{IsOutcome, IsRound, Outcome, Told as Spawning, Round as Reading}
+use Rattle.helper_worker.specs.Rounds.{entries_of as read_by, made_by as made_in}
 use Rattle.helper_worker.specs.Rounds.Outcome.{Heard, Failed}
 use Rattle.helper_worker.specs.Rounds.Round.{Start, Idle as ReadIdle}
 use Rattle.helper_worker.specs.Serving.{IsServed, Served, entries_in}
@@ -169,8 +171,12 @@ module _ (old new : Devices) (slots : Slots) (content : Option (List ℕ → Lis
   reader_enters : (h : ℕ) (off : Bool) (was now : Spawning) → IfRun off (ReaderRan h old.moments was now seen)
       (IsCalledOff (reader_of h) seen × (now ≡ was))
       → (all : List Entry) × (under (reader_of h) seen ≡ all) × All (MayEnter off (IsOfReader old.moments h)) all
-  reader_enters h false was now ran =
-      (_, ran.made, runs_fit (IsOfReader old.moments h) _ (reads_fit old.moments h ran.rounds ran.now ran.good ran.moment))
+  reader_enters h false was now ran = (
+    _,
+    ran.made,
+    runs_fit (IsOfReader old.moments h) _
+        (reads_fit old.moments h ran.rounds ran.now ran.good ran.moment),
+  )
   reader_enters h true was now off = (_, off.0, off_fits (IsOfReader old.moments h))
 
   replier_enters : (h : ℕ) (off : Bool) → IfRun off (ReplierRan h seen) (IsReplierOff h seen)
@@ -205,9 +211,11 @@ module _ (old new : Devices) (slots : Slots) (content : Option (List ℕ → Lis
 
 -- each entry is by a worker, under its name
 pub by_worker : (refused : ℕ → Bool) (old new : Devices) (content : Option (List ℕ → List ℕ)) (path : List ℕ)
-    (slots : Slots) (last : Known Sections Entry) → IsRun refused old new content path slots last → (made : Signed Entry)
+    (slots : Slots) (last : Known Sections Entry) → IsRun refused old new content path slots last
+    → (made : Signed Entry)
     → Contains last.seen made → IsByWorker refused old.moments content path slots made
-by_worker refused old new content path slots last run made has = of named.0 named.2 (which slots.helpers slots.peers named.0 named.1)
+by_worker refused old new content path slots last run made has = of named.0 named.2
+    (which slots.helpers slots.peers named.0 named.1)
   where
     named : (k : ℕ) × (k < workers slots.helpers slots.peers) × (made.name ≡ child_name [] k)
     named = run.history.named made has
@@ -236,7 +244,8 @@ by_worker refused old new content path slots last run made has = of named.0 name
         ))
     of k is (inr (inr (inl (n, low, at)))) =
         let name_is : made.name ≡ talker_of slots.helpers n = is ∙ ap (λ n. child_name [] n) at in
-        let enters = talker_enters old new slots content path last.seen n (refused (slots.helpers + slots.helpers + n)) _ _ (run.talkers n low) in
+        let enters = talker_enters old new slots content path last.seen n (refused
+        (slots.helpers + slots.helpers + n)) _ _ (run.talkers n low) in
         inr (inr (inl (
           n,
           low,
@@ -246,7 +255,8 @@ by_worker refused old new content path slots last run made has = of named.0 name
         )))
     of k is (inr (inr (inr at))) =
         let name_is : made.name ≡ keeper_of slots.helpers slots.peers = is ∙ ap (λ n. child_name [] n) at in
-        let enters = keeper_enters old new slots content path last.seen (refused (slots.helpers + slots.helpers + slots.peers)) _ _ run.keeper in
+        let enters = keeper_enters old new slots content path last.seen (refused
+        (slots.helpers + slots.helpers + slots.peers)) _ _ run.keeper in
         inr (inr (inr (
           name_is,
           fits_under (MayEnter (refused (slots.helpers + slots.helpers + slots.peers)) (IsOfKeeper content path slots))

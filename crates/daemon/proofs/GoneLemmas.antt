@@ -1,5 +1,6 @@
 -- Jobs that have gone can be taken apart again, into the room that there was.
-use Rattle.std.proofs.Common.{ℕ, ◌≡◌, ◌+◌, ◌++◌, ◌≤◌, ◌∙◌, Bool, suc, List, [], ◌∷◌, length, sym, ap, subst, refl, length-append, arith}
+use Rattle.std.proofs.Common.{ℕ, ◌≡◌, ◌+◌, ◌++◌, ◌≤◌, ◌∙◌, Bool, suc, List, [], ◌∷◌, length, sym, ap, subst, refl}
+use Rattle.std.proofs.Common.{length-append, arith}
 use Rattle.std.specs.List.{AllZip}
 use Rattle.std.specs.Vec.{vec_capacity}
 use Rattle.std.specs.declared.option.Option.{Option}
@@ -10,7 +11,8 @@ use Rattle.crew.specs.Jobs.{Job}
 use Rattle.crew.specs.Jobs.Job.{Keeps, Reads, Replies, Talks}
 use Rattle.crew.specs.Works.{AllGo, Goes}
 use Rattle.daemon.specs.Done.{Pass}
-use Rattle.daemon.specs.Laid.{AreWhole, HasRoom, HelpersLaid, IsAlike, KeeperLaid, TalkersLaid, dialer_in, dialers, ear_in, ears, pass_in, passes, spawner_in, spawners}
+use Rattle.daemon.specs.Laid.{AreWhole, HasRoom, HelpersLaid, IsAlike, KeeperLaid, TalkersLaid, dialer_in, dialers}
+use Rattle.daemon.specs.Laid.{ear_in, ears, pass_in, passes, spawner_in, spawners}
 use Rattle.daemon.specs.declared.stock.Stock.{Stock}
 use Rattle.daemon.proofs.DoneLemmas.{keeper_ended, reader_ended, replier_ended, talker_ended}
 
@@ -47,7 +49,8 @@ module _ {F S D E C : Type 0} where
       let one = alike_one old new alike.0 in
       let rest = alike_counts olds news alike.1 in
       record {
-        of_spawners = both (spawner_in old) (spawner_in new) (spawners olds) (spawners news) one.of_spawners rest.of_spawners;
+        of_spawners = both (spawner_in old) (spawner_in new) (spawners olds)
+            (spawners news) one.of_spawners rest.of_spawners;
         of_dialers = both (dialer_in old) (dialer_in new) (dialers olds) (dialers news) one.of_dialers rest.of_dialers;
         of_ears = both (ear_in old) (ear_in new) (ears olds) (ears news) one.of_ears rest.of_ears;
         of_passes = both (pass_in old) (pass_in new) (passes olds) (passes news) one.of_passes rest.of_passes;
@@ -58,10 +61,13 @@ module _ {F S D E C : Type 0} where
       → HasRoom stock olds → HasRoom stock news
   room_again stock olds news same room =
       record {
-        for_helpers = subst (λ n. length stock.helpers.items + n ≤ vec_capacity stock.helpers) (sym same.of_spawners) room.for_helpers;
-        for_peers = subst (λ n. length stock.peers.items + n ≤ vec_capacity stock.peers) (sym same.of_dialers) room.for_peers;
+        for_helpers = subst (λ n. length stock.helpers.items + n ≤ vec_capacity stock.helpers)
+            (sym same.of_spawners) room.for_helpers;
+        for_peers = subst (λ n. length stock.peers.items + n ≤ vec_capacity stock.peers)
+            (sym same.of_dialers) room.for_peers;
         for_ears = subst (λ n. length stock.ears.items + n ≤ vec_capacity stock.ears) (sym same.of_ears) room.for_ears;
-        for_passes = subst (λ n. length stock.passes.items + n ≤ vec_capacity stock.passes) (sym same.of_passes) room.for_passes;
+        for_passes = subst (λ n. length stock.passes.items + n ≤ vec_capacity stock.passes)
+            (sym same.of_passes) room.for_passes;
       }
 
 module _ {F S D E C : Type 0} (content : F → Option (List ℕ → List ℕ)) (faults : F → ℕ) (lent : F → Option ℕ)
@@ -76,7 +82,8 @@ module _ {F S D E C : Type 0} (content : F → Option (List ℕ → List ℕ)) (
           → AllGo content faults lent spawning dialling moments refused i (Keeps files path slots laid.0 ∷ []) news
           → AreWhole news
       alone (new ∷ []) go =
-          let k = keeper_ended content faults lent spawning dialling moments (refused i) path slots files laid.0 new go.0 in
+          let k = keeper_ended content faults lent spawning dialling moments
+          (refused i) path slots files laid.0 new go.0 in
           subst (λ it. AreWhole (it ∷ [])) (sym k.is) tt
       alone [] go = absurd go
       alone (new ∷ other ∷ news) go = absurd go.1
@@ -153,7 +160,8 @@ module _ {F S D E C : Type 0} (files : F) (path : List ℕ) (slots : Slots) wher
   talkers_devices n [] [] jobs given laid = keeper_devices jobs given laid
   talkers_devices n (d ∷ ds) (e ∷ es) (job ∷ jobs) (pass ∷ given) laid =
       let rest = talkers_devices (suc n) ds es jobs given laid.1 in
-      subst (λ it. (spawners (it ∷ jobs) ≡ []) × (dialers (it ∷ jobs) ≡ d ∷ ds) × (ears (it ∷ jobs) ≡ e ∷ es)) (sym laid.0)
+      subst (λ it. (spawners (it ∷ jobs) ≡ []) × (dialers (it ∷ jobs) ≡ d ∷ ds)
+      × (ears (it ∷ jobs) ≡ e ∷ es)) (sym laid.0)
       (rest.0, ap (λ l. d ∷ l) rest.1, ap (λ l. e ∷ l) rest.2)
   talkers_devices n [] (e ∷ es) jobs given laid = absurd laid
   talkers_devices n (d ∷ ds) [] jobs given laid = absurd laid
@@ -168,7 +176,8 @@ module _ {F S D E C : Type 0} (files : F) (path : List ℕ) (slots : Slots) wher
       let rest = laid_devices clock ds es (suc h) ss jobs given laid.2 in
       subst (λ it. (spawners (it ∷ other ∷ jobs) ≡ s ∷ ss) × (dialers (it ∷ other ∷ jobs) ≡ ds)
       × (ears (it ∷ other ∷ jobs) ≡ es)) (sym laid.0)
-      (subst (λ it. (s ∷ spawners (it ∷ jobs) ≡ s ∷ ss) × (dialers (it ∷ jobs) ≡ ds) × (ears (it ∷ jobs) ≡ es)) (sym laid.1)
+      (subst (λ it. (s ∷ spawners (it ∷ jobs) ≡ s ∷ ss) × (dialers (it ∷ jobs) ≡ ds)
+      × (ears (it ∷ jobs) ≡ es)) (sym laid.1)
       (ap (λ l. s ∷ l) rest.0, rest.1, rest.2))
   laid_devices clock ds es h (s ∷ ss) [] given laid = absurd laid
   laid_devices clock ds es h (s ∷ ss) (job ∷ []) given laid = absurd laid

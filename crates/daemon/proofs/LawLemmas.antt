@@ -59,7 +59,8 @@ some_entry test [] any = absurd (true≢false (sym any))
 some_entry test (made ∷ seen) any = found_first test made seen (some_entry test seen) (test made.entry) refl any
 
 -- no worker's own entry ends the daemon
-reader_no_stop : (moments : Option (ℕ → Bool)) (h : ℕ) (entry : Entry) → IsOfReader moments h entry → is_stop entry ≡ true → ⊥
+reader_no_stop : (moments : Option (ℕ → Bool)) (h : ℕ) (entry : Entry) → IsOfReader moments h entry
+    → is_stop entry ≡ true → ⊥
 reader_no_stop moments h Stopped own is = own
 reader_no_stop moments h _ own is = true≢false (sym is)
 
@@ -71,7 +72,8 @@ talker_no_stop : (n : ℕ) (entry : Entry) → IsOfTalker n entry → is_stop en
 talker_no_stop n Stopped own is = own
 talker_no_stop n _ own is = true≢false (sym is)
 
-keeper_no_stop : (content : Option (List ℕ → List ℕ)) (path : List ℕ) (slots : Slots) (entry : Entry) → IsOfKeeper content path slots entry
+keeper_no_stop : (content : Option (List ℕ → List ℕ)) (path : List ℕ) (slots : Slots) (entry : Entry)
+    → IsOfKeeper content path slots entry
     → is_stop entry ≡ true → ⊥
 keeper_no_stop content path slots Stopped own is = own
 keeper_no_stop content path slots _ own is = true≢false (sym is)
@@ -116,7 +118,8 @@ talker_slot helpers n name is (HelperDeaf slot inc) own = absurd own
 talker_slot helpers n name is (WentDown slot) own = is ∙ ap (talker_of helpers) (sym own)
 talker_slot helpers n name is _ own = tt
 
-keeper_slot : (content : Option (List ℕ → List ℕ)) (path : List ℕ) (slots : Slots) (helpers : ℕ) (name : List ℕ) (entry : Entry)
+keeper_slot : (content : Option (List ℕ → List ℕ)) (path : List ℕ) (slots : Slots) (helpers : ℕ) (name : List ℕ)
+    (entry : Entry)
     → IsOfKeeper content path slots entry → IsOfSlot helpers entry name
 keeper_slot content path slots helpers name (HelperGone slot inc) own = absurd own
 keeper_slot content path slots helpers name (HelperDeaf slot inc) own = absurd own
@@ -147,7 +150,8 @@ rounds_answer (KeptIdle ∷ rounds) = rounds_answer rounds
 rounds_answer (Loaded new given ∷ rounds) = rounds_answer rounds
 rounds_answer (NotLoaded why ∷ rounds) = rounds_answer rounds
 
-keeper_answers : (content : Option (List ℕ → List ℕ)) (path : List ℕ) (slots : Slots) (was now : ℕ) (seen : List (Signed Entry)) (off : Bool)
+keeper_answers : (content : Option (List ℕ
+    → List ℕ)) (path : List ℕ) (slots : Slots) (was now : ℕ) (seen : List (Signed Entry)) (off : Bool)
     → IfRun off (KeeperRan content path slots was now seen)
     ((under (keeper_of slots.helpers slots.peers) seen ≡ Stopped ∷ []) × (now ≡ was))
     → are_answered false (under (keeper_of slots.helpers slots.peers) seen) ≡ true
@@ -181,7 +185,8 @@ rounds_count (NotLoaded not_read.ReadFault ∷ rounds) before =
 rounds_count (NotLoaded (not_read.Refused fault) ∷ rounds) before = rounds_count rounds before
 rounds_count (NotLoaded not_read.NoMemory ∷ rounds) before = rounds_count rounds before
 
-keeper_counts : (content : Option (List ℕ → List ℕ)) (path : List ℕ) (slots : Slots) (was now : ℕ) (seen : List (Signed Entry)) (off : Bool)
+keeper_counts : (content : Option (List ℕ
+    → List ℕ)) (path : List ℕ) (slots : Slots) (was now : ℕ) (seen : List (Signed Entry)) (off : Bool)
     → IfRun off (KeeperRan content path slots was now seen)
     ((under (keeper_of slots.helpers slots.peers) seen ≡ Stopped ∷ []) × (now ≡ was))
     → RoseBy (unread_in (under (keeper_of slots.helpers slots.peers) seen)) was now
@@ -238,7 +243,8 @@ any_reverse : (test : Entry → Bool) (H : List Entry) → list_any test (revers
 any_reverse test [] any = any
 any_reverse test (entry ∷ H) any =
     of (test entry) (list_any test (reverse H)) (any_reverse test H)
-    (sym (list_any-append test (reverse H) (entry ∷ [])) ∙ (ap (list_any test) (sym (reverse-append (entry ∷ []) H)) ∙ any))
+    (sym (list_any-append test (reverse H) (entry ∷ [])) ∙ (ap (list_any test) (sym (reverse-append
+    (entry ∷ []) H)) ∙ any))
   where
     of : (this those : Bool) → (those ≡ true → list_any test H ≡ true) → (those || (this || false)) ≡ true
         → (this || list_any test H) ≡ true
@@ -249,7 +255,8 @@ any_reverse test (entry ∷ H) any =
 -- where an entry stands
 split_first : (first : Signed Entry) (seen : List (Signed Entry)) (made : Signed Entry)
     → (Contains seen made → (before : List (Signed Entry)) × IsPrefix (before ++ made ∷ []) seen)
-    → (first ≡ made) ⊎ Contains seen made → (before : List (Signed Entry)) × IsPrefix (before ++ made ∷ []) (first ∷ seen)
+    → (first ≡ made) ⊎ Contains seen made → (before : List (Signed Entry))
+    × IsPrefix (before ++ made ∷ []) (first ∷ seen)
 split_first first seen made others (inl is) = ([], (seen, ap (λ (it : Signed Entry). it ∷ seen) (sym is)))
 split_first first seen made others (inr rest) =
     let found = others rest in

@@ -1,5 +1,6 @@
 -- What became of readers and repliers in turn, then of talkers, and last of a keeper, by their places.
-use Rattle.std.proofs.Common.{ℕ, ◌≡◌, ◌+◌, ◌<◌, ◌∙◌, suc, zero, List, [], ◌∷◌, length, get_or, drop, sym, ap, subst, arith, refl, add-zero, suc-add, add-suc, le_of_suc-le-suc}
+use Rattle.std.proofs.Common.{ℕ, ◌≡◌, ◌+◌, ◌<◌, ◌∙◌, suc, zero, List, [], ◌∷◌, length, get_or, drop, sym, ap, subst}
+use Rattle.std.proofs.Common.{arith, refl, add-zero, suc-add, add-suc, le_of_suc-le-suc}
 
 module _ {S D Q : Type 0} (R : ℕ → S → S → Q → Q → Type 0) (W : ℕ → Q → Q → Type 0)
     (T : ℕ → D → D → Q → Q → Type 0) (K : Q → Q → Type 0) where
@@ -48,7 +49,8 @@ module _ {S D Q : Type 0} (R : ℕ → S → S → Q → Q → Type 0) (W : ℕ 
       → i < length ds → T (n + i) (get_or ds i d) (get_or ds' i d) (get_or qs i q) (get_or qs' i q)
   talkers_at n (d ∷ ds) (d' ∷ ds') (q ∷ qs) (q' ∷ qs') zero e v h lt = subst (λ k. T k d d' q q') (sym (add-zero n)) h.0
   talkers_at n (d ∷ ds) (d' ∷ ds') (q ∷ qs) (q' ∷ qs') (suc i) e v h lt =
-      subst (λ k. T k (get_or ds i e) (get_or ds' i e) (get_or qs i v) (get_or qs' i v)) (suc-add n i ∙ sym (add-suc n i))
+      subst (λ k. T k (get_or ds i e) (get_or ds' i e) (get_or qs i v) (get_or qs' i v)) (suc-add n i ∙ sym
+      (add-suc n i))
       (talkers_at (suc n) ds ds' qs qs' i e v h.1 (le_of_suc-le-suc lt))
   talkers_at n [] ds' qs qs' i e v h lt = absurd (omega arith)
   talkers_at n (d ∷ ds) [] qs qs' i e v h lt = absurd h
@@ -89,7 +91,8 @@ module _ {S D Q : Type 0} (R : ℕ → S → S → Q → Q → Type 0) (W : ℕ 
     readers_at h (s ∷ ss) (s' ∷ ss') (q ∷ v ∷ qs) (q' ∷ v' ∷ qs') (suc i) e u ends lt =
         subst (λ k. R k (get_or ss i e) (get_or ss' i e) (get_or (q ∷ v ∷ qs) (suc i + suc i) u)
         (get_or (q' ∷ v' ∷ qs') (suc i + suc i) u)) (suc-add h i ∙ sym (add-suc h i))
-        (subst (λ k. R (suc h + i) (get_or ss i e) (get_or ss' i e) (get_or (q ∷ v ∷ qs) k u) (get_or (q' ∷ v' ∷ qs') k u))
+        (subst (λ k. R (suc h + i) (get_or ss i e) (get_or ss' i e) (get_or (q ∷ v ∷ qs) k u) (get_or
+        (q' ∷ v' ∷ qs') k u))
         (sym (twice i)) (readers_at (suc h) ss ss' qs qs' i e u ends.2 (le_of_suc-le-suc lt)))
     readers_at h [] ss' qs qs' i e u ends lt = absurd (omega arith)
     readers_at h (s ∷ ss) [] qs qs' i e u ends lt = absurd ends

@@ -222,8 +222,12 @@ module _ {F S D : Type 0} (content : F → Option (List ℕ → List ℕ)) (faul
       name = (news.each k q below).name;
       none = (news.each k q below).own;
       left = λ made makes.
-          (made_by (λ start entries entry. Allows start (reverse entries) entry) gate start (workers slots.helpers slots.peers) opened later last passes passes' is many were all k q made below makes).0;
-      front = (made_by (λ start entries entry. Allows start (reverse entries) entry) gate start (workers slots.helpers slots.peers) opened later last passes passes' is many were all k q _ below (made_at k q below).1).1;
+          (made_by (λ start entries entry. Allows start (reverse entries) entry) gate start
+          (workers slots.helpers slots.peers) opened later last passes passes' is many were all k q made below
+          makes).0;
+      front = (made_by (λ start entries entry. Allows start (reverse entries) entry) gate start
+          (workers slots.helpers slots.peers) opened later last passes passes' is many were all k q _ below
+          (made_at k q below).1).1;
     }
 
     pub is_run : IsRun refused (devices spawning dialling moments helpers peers (faults files))
@@ -232,15 +236,20 @@ module _ {F S D : Type 0} (content : F → Option (List ℕ → List ℕ)) (faul
       history = record {
         config = start;
         configured = config;
-        start = same_start (λ start entries entry. Allows start (reverse entries) entry) gate start (workers slots.helpers slots.peers) opened later last passes passes' is many were all;
-        legal = all_legal (λ start entries entry. Allows start (reverse entries) entry) gate start (workers slots.helpers slots.peers) opened later last passes passes' is many were all;
-        named = all_named (λ start entries entry. Allows start (reverse entries) entry) gate start (workers slots.helpers slots.peers) opened later last passes passes' is many were all;
+        start = same_start (λ start entries entry. Allows start (reverse entries) entry) gate start
+            (workers slots.helpers slots.peers) opened later last passes passes' is many were all;
+        legal = all_legal (λ start entries entry. Allows start (reverse entries) entry) gate start
+            (workers slots.helpers slots.peers) opened later last passes passes' is many were all;
+        named = all_named (λ start entries entry. Allows start (reverse entries) entry) gate start
+            (workers slots.helpers slots.peers) opened later last passes passes' is many were all;
       };
       readers = λ h low.
           let s = some_item helpers h (omega arith) in
           subst (λ (told : Spawning). IfRun (refused (h + h))
-          (ReaderRan h moments told (spawning_at (devices spawning dialling moments helpers' peers' (faults files')) h) last.seen)
-          (IsCalledOff (reader_of h) last.seen × (spawning_at (devices spawning dialling moments helpers' peers' (faults files')) h ≡ told)))
+          (ReaderRan h moments told (spawning_at (devices spawning dialling moments helpers' peers'
+          (faults files')) h) last.seen)
+          (IsCalledOff (reader_of h) last.seen × (spawning_at (devices spawning dialling moments helpers' peers'
+          (faults files')) h ≡ told)))
           (sym (get_or-map spawning helpers h s (spawning_told None None None) (omega arith)))
           (subst (λ (told : Spawning). IfRun (refused (h + h))
           (ReaderRan h moments (spawning (slice_index_or helpers h s)) told last.seen)
@@ -254,8 +263,10 @@ module _ {F S D : Type 0} (content : F → Option (List ℕ → List ℕ)) (faul
       talkers = λ n low.
           let d = some_item peers n (omega arith) in
           subst (λ (told : Dialling). IfRun (refused (slots.helpers + slots.helpers + n))
-          (TalkerRan slots.helpers n told (dialling_at (devices spawning dialling moments helpers' peers' (faults files')) n) last.seen)
-          (IsCalledOff (talker_of slots.helpers n) last.seen × (dialling_at (devices spawning dialling moments helpers' peers' (faults files')) n ≡ told)))
+          (TalkerRan slots.helpers n told (dialling_at (devices spawning dialling moments helpers' peers'
+          (faults files')) n) last.seen)
+          (IsCalledOff (talker_of slots.helpers n) last.seen
+          × (dialling_at (devices spawning dialling moments helpers' peers' (faults files')) n ≡ told)))
           (sym (get_or-map dialling peers n d (dialling_told None None None) (omega arith)))
           (subst (λ (told : Dialling). IfRun (refused (slots.helpers + slots.helpers + n))
           (TalkerRan slots.helpers n (dialling (slice_index_or peers n d)) told last.seen)

@@ -17,19 +17,23 @@ use Rattle.book_history.specs.Legal.{Allows}
 use Rattle.book_history.specs.declared.outcomes.Spawn.TheVariants as spawn
 use Rattle.control_worker.specs.Rounds.{IsFiled, counted_behind, stop_told, Round as Keeping, entries_of as kept_by}
 use Rattle.helper_worker.specs.Handing.{under, writer_of}
-use Rattle.helper_worker.specs.Rounds.{Ends, IsBackBy, IsRound, Tells, Told as Spawning, told as spawning_told, Round as Reading, entries_of as read_by}
+use Rattle.helper_worker.specs.Rounds.{Ends, IsBackBy, IsRound, Tells, Told as Spawning, told as spawning_told}
+use Rattle.helper_worker.specs.Rounds.{Round as Reading, entries_of as read_by}
 use Rattle.helper_worker.specs.Rounds.Outcome.{Heard}
 use Rattle.helper_worker.specs.Rounds.Round.{Start}
 use Rattle.helper_worker.specs.Serving.{IsServed, Rises, Served, entries_in}
-use Rattle.peer_worker.specs.Rounds.{IsGood, Told as Dialling, told as dialling_told, Tells as Dials, Round as Talking, entries_of as talked_by, stopping}
+use Rattle.peer_worker.specs.Rounds.{IsGood, Told as Dialling, told as dialling_told, Tells as Dials, Round as Talking}
+use Rattle.peer_worker.specs.Rounds.{entries_of as talked_by, stopping}
 use Rattle.script_play.specs.declared.status.Status.{Status}
 use Rattle.script_play.specs.declared.status.Status.TheVariants as status_is
 use Rattle.daemon.specs.Done.{IfRun}
 use Rattle.daemon.specs.Names.{IsWorker, keeper_of, reader_of, talker_of}
 
--- a reader's entries are those of rounds, and last that the daemon ends; its spawner tells them; and each sink came back
+-- a reader's entries are those of rounds, and last that the daemon ends; its spawner tells them; and each sink came
+-- back
 -- from the replier before the next round
-pub record ReaderRan (h : ℕ) (moments : Option (ℕ → Bool)) (old new : Spawning) (seen : List (Signed Entry)) : Type 0 where
+pub record ReaderRan (h : ℕ) (moments : Option (ℕ
+    → Bool)) (old new : Spawning) (seen : List (Signed Entry)) : Type 0 where
   pub rounds : List Reading
   pub now : ℕ
   pub moment : MayRead moments now
@@ -56,7 +60,8 @@ pub record TalkerRan (helpers n : ℕ) (old new : Dialling) (seen : List (Signed
   pub tells : Dials old rounds new
   pub good : All (IsGood n) rounds
 
--- the keeper's entries are those of rounds, and last that the daemon ends; the files' count of faults is that of the rounds
+-- the keeper's entries are those of rounds, and last that the daemon ends; the files' count of faults is that of the
+-- rounds
 pub record KeeperRan (content : Option (List ℕ → List ℕ)) (path : List ℕ) (slots : Slots) (faults faults' : ℕ)
     (seen : List (Signed Entry)) : Type 0 where
   pub rounds : List Keeping
@@ -90,7 +95,8 @@ pub record Devices : Type 0 where
   pub dialling : List Dialling
   pub faults : ℕ
 
-abbrev pub devices : {S D : Type 0} → (S → Spawning) → (D → Dialling) → Option (ℕ → Bool) → List S → List D → ℕ → Devices
+abbrev pub devices : {S D : Type 0} → (S → Spawning) → (D → Dialling) → Option (ℕ → Bool) → List S → List D → ℕ
+    → Devices
 devices spawning dialling moments helpers peers faults = record {
   moments = moments;
   spawning = map spawning helpers;
