@@ -7,8 +7,8 @@ mod plan;
 
 use crate::{Ran, exabgp_run};
 use cases::CASES;
-use driver::{BAD, Holds, TWO, devices, faults, have_taken, took};
-use plan::Act::{Begins, Opens, OtherTook, Second};
+use driver::{BAD, HELPERS, Holds, TWO, devices, faults, have_taken, took};
+use plan::Act::{Begins, First, Opens, OtherTook, Second};
 use plan::{ALL, Fails, Held, Marks, Plan};
 use script_play::Status;
 use std::test::Fail;
@@ -50,6 +50,27 @@ fn a_worker_that_is_refused_ends_the_daemon(rt: HostRuntime) -> Result<(), Fail>
         assert_eq!(rt; world.crew.faults(), 1);
         assert!(rt; world.last.is_some());
     }
+    Ok(())
+}
+
+#[test]
+fn a_helper_that_waits_for_the_answer_of_another_gets_its_turn(
+    rt: HostRuntime,
+) -> Result<(), Fail> {
+    let plan = Plan {
+        first: b"# a\nshutdown\n",
+        second: b"# b\n",
+        held: &[Held(First, 4, OtherTook, 5)],
+        fails: &[],
+    };
+    let marks = Marks::new();
+    let holds = Holds::new(plan, &marks);
+    let world = devices(&rt, plan, &holds, &marks)?;
+    let Ran { status, world } = exabgp_run(&rt, rt.alloc(), &["run", HELPERS], world);
+    assert!(rt; !marks.was_missed());
+    assert_eq!(rt; status, Status::Ok);
+    assert_eq!(rt; took(&world, 0), Some(b"done\ndone\n".as_slice()));
+    assert_eq!(rt; took(&world, 1), Some(b"done\n".as_slice()));
     Ok(())
 }
 

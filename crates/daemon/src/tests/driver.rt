@@ -25,14 +25,21 @@ const BYTES: usize = 65_536;
 /// The path of a configuration of two helpers and a neighbour.
 pub const TWO: &str = "two.conf";
 
+/// The path of a configuration of two helpers alone.
+pub const HELPERS: &str = "helpers.conf";
+
 /// The path of a file that is no configuration.
 pub const BAD: &str = "bad.conf";
 
-const HELD: [HeldFile<'static>; 2] = [
+const HELD: [HeldFile<'static>; 3] = [
     HeldFile {
         path: TWO,
         content: b"process h { run /bin/cat; } process g { run /bin/cat; } neighbor 192.0.2.2 { \
             local-address 192.0.2.9; local-as 65001; peer-as 65002; api { processes [ h g ]; } }",
+    },
+    HeldFile {
+        path: HELPERS,
+        content: b"process h { run /bin/cat; } process g { run /bin/cat; }",
     },
     HeldFile {
         path: BAD,
