@@ -57,10 +57,11 @@ fn a_worker_that_is_refused_ends_the_daemon(rt: HostRuntime) -> Result<(), Fail>
 fn a_helper_that_waits_for_the_answer_of_another_gets_its_turn(
     rt: HostRuntime,
 ) -> Result<(), Fail> {
+    let held = [Held(First, 4, OtherTook, 5)];
     let plan = Plan {
         first: b"# a\nshutdown\n",
         second: b"# b\n",
-        held: &[Held(First, 4, OtherTook, 5)],
+        held: &held,
         fails: &[],
     };
     let marks = Marks::new();
