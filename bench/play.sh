@@ -30,7 +30,7 @@ subject=()
 } >"$folder/four.conf"
 
 # So many lines of the helper about as many prefixes as there are lines, or about 500 of them, where each sixth is
-# refused and each third withdraws.
+# refused and each third withdraws, and messages are cut on the way too.
 script() {
   awk -v count="$1" -v mixed="$2" 'BEGIN {
     print "spawn 0 0"
@@ -49,6 +49,8 @@ script() {
         printf "line 0 1 announce route %s med %d\n", prefix, i
       if (i % 64 == 63 || i == count - 1)
         print "take 0 1"
+      if (mixed && i % 500 == 499)
+        printf "drain %d\n", int(i / 500) % 4
     }
     for (n = 0; n < 4; n++)
       printf "drain %d\n", n
