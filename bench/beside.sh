@@ -1,8 +1,9 @@
-# Times two programs side by side; the scripts here read it in, and have made $folder.
-# shellcheck shell=bash
+# Times two programs side by side. The scripts here read it in; they set program, make folder, and give the words of C's
+# command in the list yardstick, and those of the program's in the list subject, which is empty where it isn't built.
+# shellcheck shell=bash disable=SC2154
 
-# One run of a command over the file of the input: processor seconds and kilobytes as a line of NAME.runs, and its output
-# in NAME.printed.
+# One run of a command over the file of the input: processor seconds and kilobytes become a line of NAME.runs, and what
+# it prints is in NAME.printed.
 run_once() {
   local name=$1 TIMEFORMAT='%3U %3S'
   shift
@@ -11,8 +12,7 @@ run_once() {
   cat "$folder/most" >>"$folder/$name.runs"
 }
 
-# Runs both commands, C's first, three times in turns, and looks whether they print the same. The words of C's command
-# stand in the list yardstick; the program's, which is left out where it is empty, in the list subject.
+# Runs both commands, C's first, three times in turns, and looks whether they print the same.
 run_beside() {
   rm -f "$folder"/*.runs
   for _ in 1 2 3; do
@@ -23,10 +23,10 @@ run_beside() {
   done
 }
 
-# Processor seconds and kilobytes of the median of a name's three runs, by processor time.
+# Processor seconds and kilobytes of that of a name's three runs which has the median of the processor seconds.
 median() { sort -n "$folder/$1.runs" | sed -n 2p; }
 
-# The rows of both programs behind their first cells, for a number of things; a line each for `grown`.
+# The rows of both programs for so many things, behind the first cells; what `grown` needs is kept by a key.
 rows() {
   local front=$1 key=$2 count=$3 name
   for name in C ${subject:+exabgpd}; do
