@@ -13,9 +13,7 @@ static void answer(const char *line, size_t len) {
         want(&peer, said.addr, said.len, said.value);
         put("done\n");
     } else {
-        char text[32];
-        snprintf(text, sizeof text, "error token %u\n", said.fault);
-        put(text);
+        put("error\n");
     }
 }
 

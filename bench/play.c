@@ -14,14 +14,11 @@ static unsigned peer_count;
 static unsigned replies[MAX_REPLIES];
 static size_t first_reply, reply_count;
 
-/* Writes what a line is answered: done, or the place of its fault. */
-static void put_reply(const char *front, unsigned fault) {
-    char text[48];
-    if (fault == 0)
-        snprintf(text, sizeof text, "%sdone\n", front);
-    else
-        snprintf(text, sizeof text, "%serror token %u\n", front, fault);
-    put(text);
+/* Writes what came of a line: done, or the place of its fault. */
+static void put_answer(unsigned fault) {
+    char text[32];
+    snprintf(text, sizeof text, "error token %u\n", fault);
+    put(fault == 0 ? "done\n" : text);
 }
 
 /* A line of the helper. */
@@ -34,14 +31,14 @@ static void say(const char *line, size_t len) {
     for (unsigned n = 0; said.fault == 0 && n < peer_count; n++)
         want(&peers[n], said.addr, said.len, said.value);
     replies[(first_reply + reply_count++) % MAX_REPLIES] = said.fault;
-    put_reply("", said.fault);
+    put_answer(said.fault);
 }
 
 static void take(void) {
     if (reply_count == 0)
         put("nothing\n");
     for (int i = 0; i < MAX_TAKEN && reply_count > 0; i++, reply_count--) {
-        put_reply("reply ", replies[first_reply]);
+        put(replies[first_reply] == 0 ? "reply done\n" : "reply error\n");
         first_reply = (first_reply + 1) % MAX_REPLIES;
     }
 }

@@ -103,11 +103,11 @@ static void join(struct peer *peer, uint32_t number, uint32_t value) {
     route->due = 1;
 }
 
-/* A prefix is to have a value, or none. */
+/* A prefix is to have a value, or none. One that is due and is said again goes behind the others. */
 static void want(struct peer *peer, uint32_t addr, uint8_t len, uint32_t value) {
     uint32_t number = find(peer, addr, len);
     struct route *route = &peer->routes[number];
-    if (route->value == value)
+    if (route->value == value && !route->due)
         return;
     if (route->due)
         leave(peer, number, route->value);
