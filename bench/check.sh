@@ -4,14 +4,15 @@
 # seconds and the most memory of the fastest of three runs. The aim is under a second each.
 #
 # usage: bench/check.sh
+#        PROGRAM=PATH bench/check.sh       times another build
 set -eu
 cd "$(dirname "$0")/.."
-program=$PWD/crates/exabgpd/out/exabgpd
+program=${PROGRAM:-$PWD/crates/exabgpd/out/exabgpd}
 folder=$(mktemp -d)
 trap 'rm -rf "$folder"' EXIT
 
 if [ ! -x "$program" ]; then
-  echo "exabgpd isn't built: crates/exabgpd/out/exabgpd"
+  echo "exabgpd isn't built: $program"
   exit 0
 fi
 # An empty file is a configuration.

@@ -1,42 +1,37 @@
 #!/usr/bin/env bash
-# Times `exabgpd load`, beside the same work in C. Their outputs have to be the same, byte for byte, and that of a load
-# of 100 routes first. Prints a table: processor seconds and the most memory of the fastest of three runs, and how much
-# of the C program's processor time the program takes.
+# Times `exabgpd load` at growing numbers of routes, beside the same work in C. Their outputs have to be the same, byte
+# for byte, and the yardstick's first that of examples/load. Prints a table: processor seconds and the most memory, both
+# of the median of three runs by processor time, the bytes of memory a route beyond those of one route, and how often
+# the yardstick's time the program takes; behind it how the cost of a route grows from each size to the next.
 #
-# usage: bench/load.sh [COUNT]         (1000000 where none is given)
+# usage: bench/load.sh [COUNT ..]          (100000 1000000 where none are given)
+#        PROGRAM=PATH bench/load.sh        times another build
 set -eu
 cd "$(dirname "$0")/.."
-program=$PWD/crates/exabgpd/out/exabgpd
-count=${1:-1000000}
+program=${PROGRAM:-$PWD/crates/exabgpd/out/exabgpd}
+sizes=("${@:-}")
+[ "$#" -gt 0 ] || sizes=(100000 1000000)
 folder=$(mktemp -d)
 trap 'rm -rf "$folder"' EXIT
+. bench/beside.sh
 cc -O2 -o "$folder/yardstick" bench/load.c
-if [ "$("$folder/yardstick" 100 | tr '\n' ' ')" != "routes 100 lines 150 done 150 error 0 messages 3 bytes 689 \
-announced 100 withdrawn 50 left 50 " ]; then
-  echo "the yardstick counts otherwise"
-  exit 1
-fi
+"$folder/yardstick" 100 | cmp - examples/load/output
 
-# Processor seconds and kilobytes of the fastest of three runs.
-fastest() {
-  TIMEFORMAT='%3U %3S'
-  for _ in 1 2 3; do
-    { time /usr/bin/time -f %M -o "$folder/most" "$@" >"$folder/printed"; } 2>"$folder/took"
-    awk '{ printf "%.3f ", $1 + $2 }' "$folder/took"
-    cat "$folder/most"
-  done | sort -n | head -n 1
+# Runs both for so many routes.
+load_of() {
+  yardstick=("$folder/yardstick" "$1")
+  subject=()
+  [ ! -x "$program" ] || subject=("$program" load "$1")
 }
 
-echo "| program | routes | processor seconds | MB |"
-echo "|---|---|---|---|"
-read -r slow most < <(fastest "$folder/yardstick" "$count")
-mv "$folder/printed" "$folder/wanted"
-awk -v n="$count" -v s="$slow" -v k="$most" 'BEGIN { printf "| C | %d | %.3f | %.1f |\n", n, s, k / 1024 }'
-if [ ! -x "$program" ]; then
-  echo "exabgpd isn't built: crates/exabgpd/out/exabgpd"
-  exit 0
-fi
-read -r took most < <(fastest "$program" load "$count")
-cmp "$folder/printed" "$folder/wanted"
-awk -v n="$count" -v s="$took" -v k="$most" 'BEGIN { printf "| exabgpd | %d | %.3f | %.1f |\n", n, s, k / 1024 }'
-awk -v s="$took" -v c="$slow" 'BEGIN { printf "\nexabgpd takes %.2f times the processor time of C\n", s / c }'
+: >"$folder/input"
+load_of 1
+keep_none
+echo "| routes | program | processor seconds | MB | bytes a route | times C |"
+echo "|---|---|---|---|---|---|"
+for count in "${sizes[@]}"; do
+  load_of "$count"
+  run_beside
+  rows "$count | " "" "$count"
+done
+grown

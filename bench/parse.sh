@@ -3,10 +3,11 @@
 # have to be the same, byte for byte. Prints a table: processor seconds and the most memory of the fastest of three
 # runs, and how much of the C program's processor time the program takes.
 #
-# usage: bench/parse.sh [LINES]        (1000000 where none is given)
+# usage: bench/parse.sh [LINES]           (1000000 where none is given)
+#        PROGRAM=PATH bench/parse.sh       times another build
 set -eu
 cd "$(dirname "$0")/.."
-program=$PWD/crates/exabgpd/out/exabgpd
+program=${PROGRAM:-$PWD/crates/exabgpd/out/exabgpd}
 count=${1:-1000000}
 folder=$(mktemp -d)
 trap 'rm -rf "$folder"' EXIT
@@ -37,7 +38,7 @@ read -r slow most < <(fastest "$folder/yardstick")
 mv "$folder/printed" "$folder/wanted"
 awk -v n="$count" -v s="$slow" -v k="$most" 'BEGIN { printf "| C | %d | %.3f | %.1f |\n", n, s, k / 1024 }'
 if [ ! -x "$program" ]; then
-  echo "exabgpd isn't built: crates/exabgpd/out/exabgpd"
+  echo "exabgpd isn't built: $program"
   exit 0
 fi
 read -r took most < <(fastest "$program" parse)

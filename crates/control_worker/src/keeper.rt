@@ -6,7 +6,7 @@ ghost use Rattle.pass_entries.specs.Making.{Makes};
 ghost use Rattle.control_worker.specs.Rounds.{Keeps, stop_told};
 
 use crate::keeping::keep;
-use crate::ringing::ring_all;
+use crate::ringing::end_waits;
 use book_core::{Book, StopCall};
 use book_gate::{Gate, Pass};
 use config_model::Slots;
@@ -104,7 +104,7 @@ impl<'g, F: Files, P: Pause> Keeper<'g, F, P> {
             self.slots,
             self.pause,
         );
-        ring_all(self.pause, self.slots);
+        end_waits(self.pause, self.slots);
     }
 
     /// Ends the daemon in place of a run.
@@ -115,6 +115,6 @@ impl<'g, F: Files, P: Pause> Keeper<'g, F, P> {
         ensures slots { self.new.slots ≡ self.old.slots }
     {
         self.gate.enter(rt, &mut self.pass, StopCall);
-        ring_all(self.pause, self.slots);
+        end_waits(self.pause, self.slots);
     }
 }

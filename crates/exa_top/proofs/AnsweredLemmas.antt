@@ -1,6 +1,6 @@
 -- What a command that was run shows of its devices, by how it ended.
 use Rattle.std.proofs.Common.{ℕ, ◌≡◌, ◌<◌, List, [], ◌++◌, length, Option, Some, None, refl, sym}
-use Rattle.std.proofs.Common.{ap, subst, arith, append-nil, length-append, inl, inr}
+use Rattle.std.proofs.Common.{ap, subst, arith, append-nil, length-append, inr}
 use Rattle.outside.specs.Seen.{SourceSeen, SinkSeen}
 use Rattle.outside.specs.Told.{Grows}
 use Rattle.script_grammar.specs.Scripts.{script_lines}
@@ -11,11 +11,10 @@ use Rattle.exa_top.specs.declared.words.TextCommand.{TextCommand}
 use Rattle.exa_top.specs.declared.words.TextCommand.TheVariants.{Encode, EncodePlain, Check, Play, Load, Parse, Decode}
 use Rattle.exa_top.specs.declared.words.TextCommand.TheVariants.{Help, Version}
 use Rattle.exa_top.specs.Encoded.{plain_of}
-use Rattle.exa_top.specs.Parsing.{IsParsing}
 use Rattle.exa_top.specs.Played.{IsPlayed, IsShown}
-use Rattle.exa_top.specs.Top.{input_limit, IsOutput, IsPartOutput, ReadToEnd, ReadsWhole, ReadPart, ReadNothing}
-use Rattle.exa_top.specs.Top.{ReadsPart, ReadsInput, IsConfigured, Broke, GaveFrom, IsLeft, Answered, Wrote}
-use Rattle.exa_top.proofs.OutputLemmas.{encoded_is_part, some_parsing}
+use Rattle.exa_top.specs.Top.{input_limit, IsOutput, IsPartOutput, ReadsWhole, ReadNothing}
+use Rattle.exa_top.specs.Top.{ReadsPart, IsConfigured, Broke, GaveFrom, Answered, Wrote}
+use Rattle.exa_top.proofs.OutputLemmas.{encoded_is_part}
 
 -- what isn't touched has grown by nothing
 pub grows_none : (told : Option (List ℕ)) → Grows told told []
@@ -93,15 +92,6 @@ whole_is_configured content Parse source source' bytes whole = tt
 whole_is_configured content (Decode caps) source source' bytes whole = tt
 whole_is_configured content Help source source' bytes whole = tt
 whole_is_configured content Version source source' bytes whole = tt
-
--- a part of a read whole
-pub part_of_whole : (source source' : SourceSeen) (bytes : List ℕ) → ReadToEnd source source' bytes
-    → ReadPart source source' bytes
-part_of_whole source source' bytes whole = record {
-  given = whole.given;
-  left = whole.left;
-  short = omega (arith, whole.short);
-}
 
 -- the output of a command that came to its end is one of a command that didn't have to
 pub whole_is_part : (content : Option (List ℕ → List ℕ)) (command : TextCommand) (input early late : List ℕ)
@@ -197,16 +187,6 @@ text_written content command source sink sink' text ends whole part outcome wrot
     written content command source source sink sink' [] text [] ends whole part outcome refl
     (subst Of (sym (append-nil text)) wrote)
 
--- `parse` that read its input and wrote the output
-pub parsing_written : (content : Option (List ℕ → List ℕ)) (source source' : SourceSeen) (sink sink' : SinkSeen)
-    (input text : List ℕ) (ends : Status) → ReadToEnd source source' input → IsParsing input text
-    → source'.faults ≡ source.faults → Wrote text sink sink' ends
-    → Answered content Parse source source' sink sink' ends
-parsing_written content source source' sink sink' input text ends whole parsing same wrote =
-    let Of : List ℕ → Type 0 = λ all. Wrote all sink sink' ends in
-    written content Parse source source' sink sink' input text [] ends whole (part_of_whole source source' input whole)
-    (parsing, refl) same (subst Of (sym (append-nil text)) wrote)
-
 -- a command that wrote nothing
 pub nothing_written : (content : Option (List ℕ → List ℕ)) (command : TextCommand) (source source' : SourceSeen)
     (sink : SinkSeen) (input early late : List ℕ) → ReadsPart command source source' input
@@ -223,13 +203,12 @@ nothing_written content command source source' sink input early late part outcom
   past = λ longer. absurd (omega (arith, longer));
 }
 
--- a command whose input was left before its end
-pub stopped : (content : Option (List ℕ → List ℕ)) (command : TextCommand) (source source' : SourceSeen)
-    (sink : SinkSeen) (input early late : List ℕ) (ends : Status) → ReadsInput command
-    → IsConfigured content command → ReadsPart command source source' input
-    → IsPartOutput content command input early late → IsLeft source source' ends
-    → Answered content command source source' sink sink ends
-stopped content command source source' sink input early late status.NoMemory reads good part outcome same = record {
+-- a command that found no memory before it wrote
+pub starved : (content : Option (List ℕ → List ℕ)) (command : TextCommand) (source source' : SourceSeen)
+    (sink : SinkSeen) (input early late : List ℕ) → ReadsPart command source source' input
+    → IsPartOutput content command input early late → source'.faults ≡ source.faults
+    → Answered content command source source' sink sink status.NoMemory
+starved content command source source' sink input early late part outcome same = record {
   spelled = λ is. absurd (cc);
   crew = λ is. absurd (cc);
   ok = λ is. absurd (cc);
@@ -242,60 +221,7 @@ stopped content command source source' sink input early late status.NoMemory rea
   write = λ is. absurd (cc);
   write_same = λ other. refl;
   late = λ is. absurd is;
-  reads = λ is. reads;
+  reads = λ is. absurd (cc);
   long = λ is. absurd (cc);
   over = λ from. inr (inr refl);
 }
-stopped content command source source' sink input early late status.ReadFault reads good part outcome counts = record {
-  spelled = λ is. absurd (cc);
-  crew = λ is. absurd (cc);
-  ok = λ is. absurd (cc);
-  broke = λ other. nothing_written content command source source' sink input early late part outcome;
-  unread = λ is. absurd (cc);
-  refused = λ fault is. absurd (cc);
-  bad = λ line is. absurd (cc);
-  read = λ is. counts;
-  read_same = λ other. absurd (other refl);
-  write = λ is. absurd (cc);
-  write_same = λ other. refl;
-  late = λ is. good;
-  reads = λ is. reads;
-  long = λ is. absurd (cc);
-  over = λ from. inr (inl refl);
-}
-stopped content command source source' sink input early late status.InputLong reads good part outcome left = record {
-  spelled = λ is. absurd (cc);
-  crew = λ is. absurd (cc);
-  ok = λ is. absurd (cc);
-  broke = λ other. nothing_written content command source source' sink input early late part outcome;
-  unread = λ is. absurd (cc);
-  refused = λ fault is. absurd (cc);
-  bad = λ line is. absurd (cc);
-  read = λ is. absurd (cc);
-  read_same = λ other. left.0;
-  write = λ is. absurd (cc);
-  write_same = λ other. refl;
-  late = λ is. good;
-  reads = λ is. reads;
-  long = λ is. left.1;
-  over = λ from. inl refl;
-}
-stopped content command source source' sink input early late status.Ok reads good part outcome left = absurd left
-stopped content command source source' sink input early late status.Usage reads good part outcome left = absurd left
-stopped content command source source' sink input early late status.WriteFault reads good part outcome left =
-    absurd left
-stopped content command source source' sink input early late (status.ScriptRefused line) reads good part outcome left =
-    absurd left
-stopped content command source source' sink input early late status.NoCrew reads good part outcome left = absurd left
-stopped content command source source' sink input early late status.ConfigRead reads good part outcome left =
-    absurd left
-stopped content command source source' sink input early late (status.ConfigRefused fault) reads good part outcome left =
-    absurd left
-
--- `parse` whose input was left before its end
-pub parsing_stopped : (content : Option (List ℕ → List ℕ)) (source source' : SourceSeen) (sink : SinkSeen)
-    (input : List ℕ) (ends : Status) → ReadPart source source' input → IsLeft source source' ends
-    → Answered content Parse source source' sink sink ends
-parsing_stopped content source source' sink input ends part left =
-    let some = some_parsing input in
-    stopped content Parse source source' sink input some.0 [] ends tt tt part (some.1, refl) left

@@ -38,7 +38,7 @@ use Rattle.exa_top.specs.Top.{input_limit, Answered, Broke, EncodesIts, EndsAtOn
 use Rattle.exa_top.specs.Top.{IsConfigured, IsOutput, IsPartOutput}
 use Rattle.exa_top.specs.Top.{Ran, ReadPart, ReadToEnd, ReadsInput, ReadsPart, ReadsWhole}
 use Rattle.exa_top.specs.Words.{IsCommand, IsEncode}
-use Rattle.exa_top.proofs.AnsweredLemmas.{few_given, nothing_written, read_none, stopped, untouched_is_few}
+use Rattle.exa_top.proofs.AnsweredLemmas.{few_given, nothing_written, read_none, starved, untouched_is_few}
 use Rattle.exa_top.proofs.CheckedLemmas.{unread_stopped}
 use Rattle.exa_top.proofs.PlayedLemmas.{counts_unread, read_nothing, read_part, same_letter}
 use Rattle.exa_top.proofs.WordLemmas.{local_as_is, local_is, peer_as_is}
@@ -266,8 +266,8 @@ module _ (content : Option (List ℕ → List ℕ)) (command : TextCommand) (con
   most_answered (unopened unread unwritten) same =
       subst (λ (seen : SinkSeen). Answered content command source source' sink seen status.NoMemory) (sym unwritten)
       (subst (λ (seen : SourceSeen). Answered content command source seen sink sink status.NoMemory) (sym unread)
-      (stopped content command source source sink [] [] [] status.NoMemory encoder.reads encoder.good
-      (encoder.begun source source [] (read_nothing source)) encoder.none refl))
+      (starved content command source source sink [] [] [] (encoder.begun source source [] (read_nothing source))
+      encoder.none refl))
 
   -- lines were encoded over a configuration, by the status
   encoder_answered : (ends : Status) → Encodes config source source' sink sink' ends

@@ -4,6 +4,8 @@ pub mod CapLemmas
 pub mod WordLemmas
 pub mod ZippedLemmas
 pub mod ParsedLemmas
+pub mod PieceLemmas
+pub mod InputLemmas
 pub mod CheckedLemmas
 pub mod DecodedLemmas
 pub mod CompleteLemmas

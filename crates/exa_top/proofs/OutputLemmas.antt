@@ -1,8 +1,10 @@
 -- Outputs that belong to what a command read.
-use Rattle.std.proofs.Common.{ℕ, ◌≡◌, List, [], ◌∷◌, append-nil, refl, sym, inr, cond, Bool, true, false}
-use Rattle.std.proofs.Common.{Result, Err, length, ltb, ltb-true, ltb-false, arith}
+use Rattle.std.proofs.Common.{ℕ, ◌≡◌, List, [], ◌∷◌, ◌++◌, ◌∙◌, ap, append-nil, refl, subst, sym, inr, cond, Bool, true}
+use Rattle.std.proofs.Common.{false, Result, Err, length, ltb, ltb-true, ltb-false, arith}
 use Rattle.std.specs.List.{AllZip, flat_map}
+use Rattle.std.proofs.lemmas.Grind.{flat_map-append}
 use Rattle.text_forms.specs.Lines.{Line, Text, TooLong, lines}
+use Rattle.line_cutter.proofs.UnfinishedLemmas.{lines_stay}
 use Rattle.route_grammar.specs.declared.fault.LineFault.TheVariants as fault
 use Rattle.route_grammar.specs.declared.fault.ReadFault.{ReadFault}
 use Rattle.route_grammar.specs.declared.fault.ReadFault.TheVariants.{Line as Refused, NoMemory}
@@ -12,6 +14,7 @@ use Rattle.config_model.specs.Sections.{Sections}
 use Rattle.text_history.specs.Encodes.{numbered}
 use Rattle.exa_top.specs.Encoded.{IsEncoded, IsEncodedPart}
 use Rattle.exa_top.specs.Parsing.{IsParsing, reading_text}
+use Rattle.exa_top.proofs.ZippedLemmas.{zipped_both}
 
 -- lines that were encoded to their end were encoded so far
 pub encoded_is_part : (config : Sections) (input early late : List ℕ) → IsEncoded config input early late
@@ -73,9 +76,20 @@ unfolding unread_all
 unread_say [] = tt
 unread_say (line ∷ others) = (unread_says line, unread_say others)
 
--- so some parsing belongs to any input
-pub some_parsing : (input : List ℕ) → (text : List ℕ) × IsParsing input text
-some_parsing input = (
-  flat_map reading_text (unread_all (lines input)),
-  record { readings = unread_all (lines input); read = unread_say (lines input); text = refl },
-)
+-- so a parsing goes on, whatever follows what was read
+pub parsing_on : (bytes more text : List ℕ) → IsParsing bytes text
+    → (rest : List ℕ) × IsParsing (bytes ++ more) (text ++ rest)
+parsing_on bytes more text is =
+    let stay = lines_stay bytes more in
+    let others : List (Result Command ReadFault) = unread_all stay.0 in (
+      flat_map reading_text others,
+      record {
+        readings = is.readings ++ others;
+        read =
+            subst (λ (given : List Line). AllZip Says given (is.readings ++ others)) (sym stay.1)
+            (zipped_both Says (lines bytes) stay.0 is.readings others is.read (unread_say stay.0));
+        text =
+            ap (λ t. t ++ flat_map reading_text others) is.text
+            ∙ sym (flat_map-append reading_text is.readings others);
+      },
+    )

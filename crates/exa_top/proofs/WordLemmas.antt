@@ -30,7 +30,7 @@ three_words words second third [] a b c first then last none = cc
 three_words words second third (d ∷ more) a b c first then last none = absurd (omega (arith, none))
 
 -- words that are the same begin with the same letter
-first_letter : (words others : List (List ℕ)) → words ≡ others → get_or (get_or words 0 []) 0 0
+pub first_letter : (words others : List (List ℕ)) → words ≡ others → get_or (get_or words 0 []) 0 0
     ≡ get_or (get_or others 0 []) 0 0
 first_letter words others same = ap (λ all. get_or (get_or all 0 []) 0 0) same
 

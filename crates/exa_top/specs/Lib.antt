@@ -8,4 +8,5 @@ pub mod Decoded
 pub mod Played
 pub mod Encoded
 pub mod Top
+pub mod Parses
 pub mod Health

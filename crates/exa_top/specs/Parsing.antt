@@ -2,6 +2,8 @@
 use Rattle.std.specs.Prelude.{ℕ, ◌≡◌, codes, decimal, List, ◌++◌, Result, Ok, Err}
 use Rattle.std.specs.List.{flat_map, AllZip}
 use Rattle.text_forms.specs.Lines.{lines, Line as Given}
+use Rattle.line_cutter.specs.Chunking.{HasCut}
+use Rattle.line_cutter.specs.Cutting.{Cutting}
 use Rattle.route_grammar.specs.declared.fault.LineFault.{LineFault}
 use Rattle.route_grammar.specs.declared.fault.LineFault.TheVariants.{BadToken, TooMany, TooLong}
 use Rattle.route_grammar.specs.declared.fault.ReadFault.{ReadFault}
@@ -33,3 +35,13 @@ pub record IsParsing (input output : List ℕ) : Type 0 where
   pub readings : List (Result Command ReadFault)
   pub read : AllZip Says (lines input) readings
   pub text : output ≡ flat_map reading_text readings
+
+-- Lines end in a piece of a stream, of whose front a cutter holds what is no line yet. A text goes on with what reading
+-- each of them gives, printed in order.
+pub record ArePut (piece : List ℕ) (held held' : Cutting) (before after : List ℕ) : Type 0 where
+  pub more : List Given
+  pub cut : (front : List ℕ) (passed : List Given) → HasCut front passed held
+      → HasCut (front ++ piece) (passed ++ more) held'
+  pub readings : List (Result Command ReadFault)
+  pub read : AllZip Says more readings
+  pub text : after ≡ before ++ flat_map reading_text readings

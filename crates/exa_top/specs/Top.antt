@@ -41,7 +41,8 @@ checked_text = codes "ok\n"
 -- what `--help` writes
 abbrev pub help_text : List ℕ
 help_text =
-    codes "usage: exabgpd encode CONFIG\n" ++ codes "       exabgpd encode LOCAL_AS PEER_AS LOCAL_IP\n"
+    codes "usage: exabgpd run CONFIG\n" ++ codes "           runs the daemon\n"
+    ++ codes "       exabgpd encode CONFIG\n" ++ codes "       exabgpd encode LOCAL_AS PEER_AS LOCAL_IP\n"
     ++ codes "           reads a helper's lines, writes replies, and UPDATE messages at their end\n"
     ++ codes "       exabgpd check CONFIG\n"
     ++ codes "           reads a configuration file, writes ok or says what its first fault is\n"
@@ -253,13 +254,6 @@ pub record GaveLimit (limit : ℕ) (source source' : SourceSeen) : Type 0 where
   pub full : length bytes ≡ limit
   pub left : AreLeftFrom source.left limit
   pub unended : source'.ended ≡ source.ended
-
--- why a source is left before its end, as a status, and what its count of faults then shows
-abbrev pub IsLeft : SourceSeen → SourceSeen → Status → Type 0
-IsLeft source source' status.NoMemory = source'.faults ≡ source.faults
-IsLeft source source' status.ReadFault = CountsOne source.faults source'.faults
-IsLeft source source' status.InputLong = (source'.faults ≡ source.faults) × GaveLimit input_limit source source'
-IsLeft source source' _ = ⊥
 
 -- the bytes given are told, and have grown by so many or more
 abbrev pub GaveFrom : ℕ → Option (List ℕ) → Option (List ℕ) → Type 0

@@ -89,9 +89,20 @@ fn of_each_line_it_is_written_how_it_reads(rt: HostRuntime) -> Result<(), Fail> 
     let done = run(rt.alloc(), &["parse"], input.as_str(), &[], &[])?;
     assert_eq!(rt; done.status, Status::Ok);
     assert_eq!(rt; done.output.as_str(), answers.as_str());
-    let unread = run(rt.alloc(), &["parse"], input.as_str(), &[1], &[])?;
+    Ok(())
+}
+
+#[test]
+fn how_lines_read_is_written_before_more_is_read(rt: HostRuntime) -> Result<(), Fail> {
+    // The line that stands behind the others has come in part.
+    let input = "shutdown\nReload\nreload";
+    let unread = run(rt.alloc(), &["parse"], input, &[0], &[])?;
     assert_eq!(rt; unread.status, Status::ReadFault);
     assert_eq!(rt; unread.output.as_str(), "");
+    let broken_off = run(rt.alloc(), &["parse"], input, &[1], &[])?;
+    assert_eq!(rt; broken_off.status, Status::ReadFault);
+    assert_eq!(rt; broken_off.reads_failed, 1);
+    assert_eq!(rt; broken_off.output.as_str(), "ok\nerror token 1\n");
     Ok(())
 }
 
@@ -123,7 +134,7 @@ fn help_and_version_write_their_texts(rt: HostRuntime) -> Result<(), Fail> {
     assert!(rt;
         help.output
             .as_str()
-            .starts_with("usage: exabgpd encode CONFIG\n")
+            .starts_with("usage: exabgpd run CONFIG\n")
     );
     Ok(())
 }

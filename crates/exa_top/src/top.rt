@@ -1,19 +1,19 @@
 //! The top call.
 ghost use Rattle.std.specs.Prelude.{◌≡◌, ◌⊎◌, codes, List, [], ◌∷◌, ℕ, Option, map};
-ghost use Rattle.std.specs.Prelude.{IfOk, IfErr, OnOk, OnErr};
 ghost use Rattle.config_model.specs.declared.fault.ConfigFault.{ConfigFault as Fault};
 ghost use Rattle.exa_top.specs.Encoded.{EncodesFile, plain_of};
+ghost use Rattle.exa_top.specs.Parses.{Parses, ParsesIts};
 ghost use Rattle.exa_top.specs.Played.{PlaysFile};
 ghost use Rattle.exa_top.specs.Top.{Answered, AreConfigured, Began, EncodesIts, EndsAtOnce};
 ghost use Rattle.exa_top.specs.Top.{EndsLate, Finished};
-ghost use Rattle.exa_top.specs.Top.{GaveFrom, GaveLimit, HaveConfig, HaveFault, HaveScript, IsLeft};
+ghost use Rattle.exa_top.specs.Top.{GaveFrom, GaveLimit, HaveConfig, HaveFault, HaveScript};
 ghost use Rattle.exa_top.specs.Top.{IsBounded, IsLeftShort, IsOverrun};
 ghost use Rattle.exa_top.specs.Top.{NameFile, NamesFile, PlayScript, PlaysIts, PlaysScript};
-ghost use Rattle.exa_top.specs.Top.{ReadInput, ReadPart, ReadToEnd, Refuses, Wrote, input_limit};
+ghost use Rattle.exa_top.specs.Top.{ReadInput, Refuses, Wrote, input_limit};
 ghost use Rattle.exa_top.specs.Words.{IsCommand, IsEncode};
 ghost use Rattle.exa_top.specs.declared.words.Ends.{Ends as Session};
 ghost use Rattle.exa_top.specs.declared.words.TextCommand.{TextCommand as Spelled};
-ghost use Rattle.exa_top.specs.declared.words.TextCommand.TheVariants.{Check, Parse};
+ghost use Rattle.exa_top.specs.declared.words.TextCommand.TheVariants.{Check};
 ghost use Rattle.outside.specs.Lent.{LendsNone};
 ghost use Rattle.outside.specs.Seen.{SourceSeen, source_seen, sink_seen};
 ghost use Rattle.outside.specs.Told.{CountsOne, Rose};
@@ -22,12 +22,12 @@ ghost use Rattle.script_play.specs.Encoding.{Encodes};
 use crate::decoding::decode;
 use crate::encoding::{encode_over, encode_plain};
 use crate::loading::load_plain;
-use crate::parsing::parse_all;
+use crate::parsing::parse;
 use crate::playing::play_over;
 use crate::words::{TextCommand, text_command};
 use config_model::{MAX_HELPERS, MAX_PEERS, Slots};
 use config_reader::files_say_one;
-use outside::{Files, Sink, Source, Unread, read_all, write_all};
+use outside::{Files, Sink, Source, write_all};
 use script_play::{Status, configured};
 use std::alloc::Global;
 
@@ -47,7 +47,9 @@ const CHECKED: &[u8] = b"ok\n";
 const VERSION: &[u8] = b"exabgpd 0.1.0\n";
 
 // What `--help` writes.
-const HELP: &[u8] = b"usage: exabgpd encode CONFIG\n\
+const HELP: &[u8] = b"usage: exabgpd run CONFIG\n\
+\x20          runs the daemon\n\
+\x20      exabgpd encode CONFIG\n\
 \x20      exabgpd encode LOCAL_AS PEER_AS LOCAL_IP\n\
 \x20          reads a helper's lines, writes replies, and UPDATE messages at their end\n\
 \x20      exabgpd check CONFIG\n\
@@ -82,8 +84,8 @@ const HELP: &[u8] = b"usage: exabgpd encode CONFIG\n\
 /// before it reads on. `ScriptRefused` says the first line that is in no production.
 /// `load COUNT` reads no input. It opens the engine with one neighbour and one process, enters lines that announce so
 /// many routes and then withdraw each second one, and writes nine counts of what came of it.
-/// `parse` reads its input to the end as command lines. It writes for each line, in order, one line: `ok`, its first
-/// fault as `error token PLACE`, `error many PLACE LIMIT` or `error long`, or `error memory`.
+/// `parse` reads its input to the end as command lines. It writes for each line, before it reads on, one line: `ok`,
+/// its first fault as `error token PLACE`, `error many PLACE LIMIT` or `error long`, or `error memory`.
 /// `decode CAP ..` reads its input to the end as UPDATE messages in hexadecimal, one a line, of a session with these
 /// capabilities. It writes for each line, as it comes, the command lines that say the same, or `# refused`, the line's
 /// number and its first fault. Blank lines and replies are passed over, and counted.
@@ -138,6 +140,12 @@ pub fn exabgp_text<F: Files, S: Source, K: Sink>(
     ensures encodes_plain { (ends : Session) → IsEncode (map (λ w. w.now) words.now) ends
         → Encodes (plain_of ends)
         (source_seen S.given S.left S.ended S.faults input.old)
+        (source_seen S.given S.left S.ended S.faults input.new)
+        (sink_seen K.taken K.faults output.old) (sink_seen K.taken K.faults output.new) result }
+
+    // What parsing leaves: of each line it is written how it reads before more is read.
+    ensures parses { map (λ w. w.now) words.now ≡ codes "parse" ∷ []
+        → Parses (source_seen S.given S.left S.ended S.faults input.old)
         (source_seen S.given S.left S.ended S.faults input.new)
         (sink_seen K.taken K.faults output.old) (sink_seen K.taken K.faults output.new) result }
 
@@ -226,6 +234,10 @@ fn run<F: Files, S: Source, K: Sink>(
         (source_seen S.given S.left S.ended S.faults input.new)
         (sink_seen K.taken K.faults output.old) (sink_seen K.taken K.faults output.new)
         (F.faults files.old) (F.faults files.new) result }
+    ensures parses { ParsesIts command.entry
+        (source_seen S.given S.left S.ended S.faults input.old)
+        (source_seen S.given S.left S.ended S.faults input.new)
+        (sink_seen K.taken K.faults output.old) (sink_seen K.taken K.faults output.new) result }
     ensures at_once { EndsAtOnce result
         → (input.new ≡ input.old) × (output.new ≡ output.old) }
     ensures unread { result ≡ Status.ConfigRead → (PlaysScript command.entry → ⊥)
@@ -268,44 +280,6 @@ fn check<F: Files, K: Sink>(alloc: Global, path: &str, files: &mut F, output: &m
     match configured(alloc, files, path, TEXT_SLOTS) {
         Ok(_) => write_text(output, CHECKED),
         Err(status) => status,
-    }
-}
-
-// Reads lines to the end of the input, and writes how each reads.
-fn parse<S: Source, K: Sink>(alloc: Global, input: &mut S, output: &mut K) -> Status
-    ensures { (content : Option (List ℕ → List ℕ)) → Answered content Parse
-        (source_seen S.given S.left S.ended S.faults input.old)
-        (source_seen S.given S.left S.ended S.faults input.new)
-        (sink_seen K.taken K.faults output.old) (sink_seen K.taken K.faults output.new) result }
-{
-    let bytes = match read_input(alloc, input) {
-        Ok(bytes) => bytes,
-        Err(status) => return status,
-    };
-    let Ok(text) = parse_all(alloc, &bytes) else {
-        return Status::NoMemory;
-    };
-    write_text(output, &text)
-}
-
-// Reads the whole input, or answers why it was left before its end.
-fn read_input<S: Source>(alloc: Global, input: &mut S) -> Result<Vec<u8>, Status>
-    ensures whole { IfOk result (λ bytes. ReadToEnd
-        (source_seen S.given S.left S.ended S.faults input.old)
-        (source_seen S.given S.left S.ended S.faults input.new) bytes.items) }
-    ensures part { OnErr result ((bytes : List ℕ) × ReadPart
-        (source_seen S.given S.left S.ended S.faults input.old)
-        (source_seen S.given S.left S.ended S.faults input.new) bytes) }
-    ensures left { IfErr result (λ status. IsLeft
-        (source_seen S.given S.left S.ended S.faults input.old)
-        (source_seen S.given S.left S.ended S.faults input.new) status) }
-    ensures same { OnOk result (S.faults input.new ≡ S.faults input.old) }
-{
-    match read_all(alloc, input, MAX_INPUT) {
-        Ok(bytes) => Ok(bytes),
-        Err(Unread::Memory) => Err(Status::NoMemory),
-        Err(Unread::Fault) => Err(Status::ReadFault),
-        Err(Unread::Long) => Err(Status::InputLong),
     }
 }
 

@@ -2,6 +2,7 @@
 //! What it writes on standard error is one line, where the command didn't end well.
 #![tactic(auto)]
 
+mod devices;
 mod running;
 
 use crate::running::run;
@@ -13,7 +14,7 @@ use std::{env, io};
 
 fn main(rt: HostRuntime) -> ExitCode {
     let status = match words_of(&rt) {
-        Ok(words) => run(&rt, &words),
+        Ok(words) => run(&rt, &rt, &words),
         Err(status) => status,
     };
     let mut line: ArrayVec<u8, STATUS_ROOM> = ArrayVec::new();

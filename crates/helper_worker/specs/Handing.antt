@@ -1,5 +1,5 @@
 -- What is told of a sink that comes back from the replier.
-use Rattle.std.specs.Prelude.{ℕ, ◌≡◌, ◌==◌, ◌&&◌, ◌||◌, cond, Bool, true, false, List, [], ◌∷◌, take, length}
+use Rattle.std.specs.Prelude.{ℕ, ◌≡◌, ◌+◌, ◌==◌, ◌&&◌, ◌||◌, cond, Bool, true, false, List, [], ◌∷◌, take, length}
 use Rattle.std.specs.List.{flat_map, list_any}
 use Rattle.std.specs.declared.option.Option.{Option}
 use Rattle.std.specs.declared.option.Option.TheVariants.{Some}
@@ -7,8 +7,14 @@ use Rattle.book_history.specs.declared.outcomes.Spawn.TheVariants as spawn
 use Rattle.book_history.specs.Entries.{Entry}
 use Rattle.book_history.specs.Entries.Entry.{HelperDeaf, RepliesTaken, SpawnAsked, Stopped}
 use Rattle.book_gate.specs.Histories.{entries, entries_by, is_name}
+use Rattle.book_gate.specs.Names.{child_name}
 use Rattle.book_gate.specs.declared.view.Signed.{Signed}
 use Rattle.helper_worker.specs.Replies.{is_last, text_of}
+
+-- The name of a slot's replier: the passes of its reader and its replier are split off the gate's first pass one after
+-- the other, slot by slot from the first.
+abbrev pub writer_of : ℕ → List ℕ
+writer_of h = child_name [] (h + h + 1)
 
 -- the text of the replies of an incarnation
 abbrev pub text_for : ℕ → Entry → List ℕ

@@ -1,6 +1,6 @@
 //! What a reader and a replier hand to each other.
 ghost use Rattle.std.specs.Prelude.{◌≡◌, true};
-ghost use Rattle.helper_worker.specs.Handing.{HasGo, HasStop, IsAnswered, TookNothing};
+ghost use Rattle.helper_worker.specs.Handing.{HasGo, HasStop, IsAnswered, TookNothing, writer_of};
 
 use book_core::Book;
 use book_gate::{GateName, Glimpse};
@@ -31,7 +31,7 @@ pub struct Return<K: Sink, L, N: GateName> {
     pub glimpse: Glimpse<Book>,
     pub name: PhantomData<N>,
     ghost of: { glimpse.gate ≡ N.gate },
-    ghost answered: { IsAnswered N.writer h inc (K.taken sink) (K.faults sink) glimpse.seen },
+    ghost answered: { IsAnswered (writer_of h) h inc (K.taken sink) (K.faults sink) glimpse.seen },
 }
 
 /// That the replier was called off, which has ended the daemon.

@@ -15,6 +15,13 @@ use std::sync::Wait;
 // How many bytes are read at once: what a pipe holds on Linux.
 const BUFFER: usize = 65_536;
 
+// Rings for those for whom the lines that end in a piece may have given work.
+fn ring_behind<P: Pause>(pause: P, h: usize, piece: &[u8]) {
+    if piece.contains(&b'\n') {
+        ring_all(pause, h);
+    }
+}
+
 /// Enters the lines of a source until it ends or fails, or it was answered that the helper has ended. Behind each piece
 /// those are rung for whom its lines may have given work.
 pub fn hear<R: Wait, P: Pause, S: Source>(
@@ -41,7 +48,7 @@ pub fn hear<R: Wait, P: Pause, S: Source>(
                 if !enter_piece(rt, alloc, gate, pass, pause, h, inc, cutter, &buffer[..got]) {
                     return;
                 }
-                ring_all(pause, h);
+                ring_behind(pause, h, &buffer[..got]);
             }
             Read::End => return,
             Read::Failed => return,

@@ -2,6 +2,7 @@
 ghost use Rattle.std.specs.Prelude.{◌≡◌, ◌<◌, [], IfOk, IfErr};
 ghost use Rattle.config_model.specs.Limits.{max_helpers};
 ghost use Rattle.pass_entries.specs.Making.{own};
+ghost use Rattle.helper_worker.specs.Handing.{writer_of};
 
 use crate::handover::Handover;
 use crate::reader::Reader;
@@ -30,7 +31,7 @@ pub struct Apart<S> {
 
 /// The reader and the replier of a slot, joined by their handover. All comes back where there is no memory.
 ///
-/// `N` names the gate and the pass that writes, which has made no entry.
+/// `N` names the gate. The pass that writes has the name of its slot's replier, and has made no entry.
 pub fn make_pair<'g, S: Spawner + Drop, C: Clock + Drop, P: Pause + Drop, N: GateName>(
     alloc: Global,
     gate: &'g Gate<Book>,
@@ -45,7 +46,7 @@ pub fn make_pair<'g, S: Spawner + Drop, C: Clock + Drop, P: Pause + Drop, N: Gat
     requires named { gate.now ≡ N.gate }
     requires reading { reading.gate ≡ gate.now }
     requires writing { writing.gate ≡ gate.now }
-    requires name { writing.name ≡ N.writer }
+    requires name { writing.name ≡ writer_of h }
     requires new { own writing ≡ [] }
     ensures reader { IfOk result (λ pair. (pair.reader.spawner ≡ spawner)
         × (pair.reader.pass ≡ reading) × (pair.reader.h ≡ h) × (pair.reader.clock ≡ clock)) }

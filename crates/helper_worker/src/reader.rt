@@ -3,6 +3,7 @@ ghost use Rattle.std.specs.Prelude.{◌≡◌, ◌<◌, [], ◌∷◌};
 ghost use Rattle.config_model.specs.Limits.{max_helpers};
 ghost use Rattle.book_history.specs.Entries.Entry.{Stopped};
 ghost use Rattle.pass_entries.specs.Making.{Makes};
+ghost use Rattle.helper_worker.specs.Handing.{writer_of};
 ghost use Rattle.helper_worker.specs.Rounds.{ReadsOut, told};
 
 use crate::handover::Handover;
@@ -91,7 +92,7 @@ impl<'g, S: Spawner, C: Clock, P: Pause, N: GateName> Reader<'g, S, C, P, N> {
     ///
     /// A sink that goes to the replier has come back before the book is asked again.
     pub fn run<R: Wait>(&mut self, rt: &R)
-        ensures reads { ReadsOut self.old.h N.writer (C.moments self.old.clock)
+        ensures reads { ReadsOut self.old.h (writer_of self.old.h) (C.moments self.old.clock)
             (told (S.children self.old.spawner) (S.asked self.old.spawner)
             (S.failed self.old.spawner))
             (told (S.children self.new.spawner) (S.asked self.new.spawner)

@@ -1,6 +1,7 @@
 //! Round after round of a reader.
 ghost use Rattle.std.specs.Prelude.{◌≡◌, ◌<◌};
 ghost use Rattle.config_model.specs.Limits.{max_helpers};
+ghost use Rattle.helper_worker.specs.Handing.{writer_of};
 ghost use Rattle.helper_worker.specs.Rounds.{ReadsOut, told};
 
 use crate::handover::Handover;
@@ -32,7 +33,7 @@ pub fn read_helpers<R: Wait, C: Clock, P: Pause, S: Spawner, N: GateName>(
     requires named { gate.now ≡ N.gate }
     requires gate { pass.old.gate ≡ gate.now }
     requires slot { h < max_helpers }
-    ensures { ReadsOut h N.writer (C.moments clock)
+    ensures { ReadsOut h (writer_of h) (C.moments clock)
         (told (S.children spawner.old) (S.asked spawner.old) (S.failed spawner.old))
         (told (S.children spawner.new) (S.asked spawner.new) (S.failed spawner.new))
         pass.old pass.new }

@@ -2,6 +2,7 @@
 ghost use Rattle.std.specs.Prelude.{◌≡◌, ◌<◌, []};
 ghost use Rattle.config_model.specs.Limits.{max_helpers};
 ghost use Rattle.pass_entries.specs.Making.{own};
+ghost use Rattle.helper_worker.specs.Handing.{writer_of};
 ghost use Rattle.helper_worker.specs.Serving.{CallsOff, IsFreshBehind, Serves};
 
 use crate::handover::Handover;
@@ -23,7 +24,7 @@ pub struct Replier<'g, S: Spawner, P, N: GateName> {
     pub pass: Pass<Book>,
     ghost of: { pass.gate ≡ gate.now },
     ghost named: { gate.now ≡ N.gate },
-    ghost name: { pass.name ≡ N.writer },
+    ghost name: { pass.name ≡ writer_of h },
     ghost slot: { h < max_helpers },
     ghost fresh: { IsFreshBehind last (own pass) },
 }
@@ -39,7 +40,7 @@ impl<'g, S: Spawner, P: Pause + Drop, N: GateName> Replier<'g, S, P, N> {
     ) -> Replier<'g, S, P, N>
         requires of { pass.gate ≡ gate.now }
         requires named { gate.now ≡ N.gate }
-        requires name { pass.name ≡ N.writer }
+        requires name { pass.name ≡ writer_of h }
         requires slot { h < max_helpers }
         requires new { own pass ≡ [] }
         ensures slot { result.h ≡ h }

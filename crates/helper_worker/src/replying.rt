@@ -3,7 +3,7 @@ ghost use Rattle.std.specs.Prelude.{◌≡◌, ◌<◌, [], ◌∷◌};
 ghost use Rattle.config_model.specs.Limits.{max_helpers};
 ghost use Rattle.book_history.specs.Entries.Entry.{Stopped};
 ghost use Rattle.pass_entries.specs.Making.{Makes, own};
-ghost use Rattle.helper_worker.specs.Handing.{HasStop};
+ghost use Rattle.helper_worker.specs.Handing.{HasStop, writer_of};
 ghost use Rattle.helper_worker.specs.Serving.{CallsOff, IsFreshBehind, Refuses, Serves};
 
 use crate::errand::{Errand, Off};
@@ -31,7 +31,7 @@ pub fn reply<R: Wait, P: Pause, K: Sink + Drop, L: Leash + Drop, N: GateName>(
 )
     requires named { gate.now ≡ N.gate }
     requires gate { pass.old.gate ≡ gate.now }
-    requires name { pass.old.name ≡ N.writer }
+    requires name { pass.old.name ≡ writer_of h }
     requires slot { h < max_helpers }
     requires fresh { IsFreshBehind last.old (own pass.old) }
     ensures serves { Serves h last.old last.new pass.old pass.new }
@@ -61,7 +61,7 @@ fn reply_to<R: Wait, P: Pause, K: Sink + Drop, L: Leash + Drop, N: GateName>(
 )
     requires named { gate.now ≡ N.gate }
     requires gate { pass.old.gate ≡ gate.now }
-    requires name { pass.old.name ≡ N.writer }
+    requires name { pass.old.name ≡ writer_of h }
     requires slot { h < max_helpers }
     requires fresh { IsFreshBehind last.old (own pass.old) }
     ensures serves { Serves h last.old last.new pass.old pass.new }
@@ -91,7 +91,7 @@ pub fn refuse<R: Wait, P: Pause, K: Sink + Drop, L: Leash + Drop, N: GateName>(
 )
     requires named { gate.now ≡ N.gate }
     requires gate { pass.old.gate ≡ gate.now }
-    requires name { pass.old.name ≡ N.writer }
+    requires name { pass.old.name ≡ writer_of h }
     requires slot { h < max_helpers }
     requires fresh { IsFreshBehind last.old (own pass.old) }
     ensures off { CallsOff h last.old last.new pass.old pass.new }
@@ -131,7 +131,7 @@ fn refuse_one<R: Wait, K: Sink + Drop, L: Leash + Drop, N: GateName>(
 )
     requires named { gate.now ≡ N.gate }
     requires gate { pass.old.gate ≡ gate.now }
-    requires name { pass.old.name ≡ N.writer }
+    requires name { pass.old.name ≡ writer_of h }
     requires slot { h < max_helpers }
     requires fresh { IsFreshBehind last.old (own pass.old) }
     requires stops { HasStop pass.old.seen }

@@ -3,7 +3,7 @@ ghost use Rattle.std.specs.Prelude.{◌≡◌, ◌<◌, [], ◌∷◌};
 ghost use Rattle.config_model.specs.Limits.{max_helpers};
 ghost use Rattle.book_history.specs.Entries.Entry.{HelperDeaf};
 ghost use Rattle.pass_entries.specs.Making.{Makes, own};
-ghost use Rattle.helper_worker.specs.Handing.{HasStop};
+ghost use Rattle.helper_worker.specs.Handing.{HasStop, writer_of};
 ghost use Rattle.helper_worker.specs.Serving.{IsFreshFor, ServesOne};
 
 use crate::answering::answer;
@@ -25,7 +25,7 @@ pub fn serve<R: Wait, P: Pause, K: Sink + Drop, L: Leash + Drop, N: GateName>(
 ) -> Return<K, L, N>
     requires named { gate.now ≡ N.gate }
     requires gate { pass.old.gate ≡ gate.now }
-    requires name { pass.old.name ≡ N.writer }
+    requires name { pass.old.name ≡ writer_of h }
     requires slot { h < max_helpers }
     requires its { errand.h ≡ h }
     requires fresh { IsFreshFor errand.inc (own pass.old) }
@@ -64,7 +64,7 @@ pub fn deafen<R: Wait, K: Sink + Drop, L: Leash + Drop, N: GateName>(
 ) -> Return<K, L, N>
     requires named { gate.now ≡ N.gate }
     requires gate { pass.old.gate ≡ gate.now }
-    requires name { pass.old.name ≡ N.writer }
+    requires name { pass.old.name ≡ writer_of h }
     requires slot { h < max_helpers }
     requires its { errand.h ≡ h }
     requires fresh { IsFreshFor errand.inc (own pass.old) }

@@ -1,5 +1,7 @@
 //! What no clause says: that the jobs end with the daemon, and what becomes of a helper whose pipes or start fail.
-ghost use Rattle.std.specs.Prelude.{◌≡◌, [], IfOk};
+ghost use Rattle.std.specs.Prelude.{◌≡◌, ◌+◌, [], IfOk};
+ghost use Rattle.book_gate.specs.Names.{child_name};
+ghost use Rattle.helper_worker.specs.Handing.{writer_of};
 ghost use Rattle.pass_entries.specs.Making.{own};
 
 use crate::{Apart, Pair, Reader, Replier, make_pair, take_apart};
@@ -44,7 +46,8 @@ fn config(alloc: Global) -> Result<Config, Fail> {
 
 // A gate round the book of that configuration.
 fn opened(rt: &HostRuntime) -> Result<Opened<Book>, Fail>
-    ensures { IfOk result (λ opened. opened.pass.gate ≡ opened.gate) }
+    ensures gate { IfOk result (λ opened. opened.pass.gate ≡ opened.gate) }
+    ensures first { IfOk result (λ opened. (opened.pass.name ≡ []) × (opened.pass.next ≡ 0)) }
 {
     let config = config(rt.alloc())?;
     let start = Snapshot::of(&config);
@@ -59,7 +62,10 @@ fn opened(rt: &HostRuntime) -> Result<Opened<Book>, Fail>
 fn split(gate: &Gate<Book>, pass: &mut Pass<Book>) -> Result<Pass<Book>, Fail>
     requires { pass.old.gate ≡ gate.now }
     ensures gate { pass.new.gate ≡ gate.now }
-    ensures new { IfOk result (λ new. (new.gate ≡ gate.now) × (own new ≡ [])) }
+    ensures name { pass.new.name ≡ pass.old.name }
+    ensures next { IfOk result (λ new. pass.new.next ≡ pass.old.next + 1) }
+    ensures new { IfOk result (λ new. (new.gate ≡ gate.now) × (own new ≡ [])
+        × (new.name ≡ child_name pass.old.name pass.old.next)) }
 {
     match gate.split(pass) {
         Ok(new) => Ok(new),
@@ -95,7 +101,7 @@ fn work<
     requires named { gate.now ≡ N.gate }
     requires reading { reading.gate ≡ gate.now }
     requires writing { writing.gate ≡ gate.now }
-    requires name { writing.name ≡ N.writer }
+    requires name { writing.name ≡ writer_of 0 }
     requires new { own writing ≡ [] }
 {
     let pair: Result<Pair<'_, S, StillClock, P, N>, Apart<S>> = make_pair(
@@ -126,7 +132,9 @@ fn worked<R: Threads + Wait + Sync, S: Spawner + Drop + Send, P: Pause + Drop + 
     pause: P,
     runs: bool,
 ) -> Result<(S, bool), Fail>
-    requires { opened.pass.gate ≡ opened.gate }
+    requires gate { opened.pass.gate ≡ opened.gate }
+    requires name { opened.pass.name ≡ [] }
+    requires next { opened.pass.next ≡ 0 }
 {
     let Opened { gate, mut pass } = opened;
     let reading = split(&gate, &mut pass)?;

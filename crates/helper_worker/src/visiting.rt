@@ -3,7 +3,7 @@ ghost use Rattle.std.specs.Prelude.{◌≡◌, ◌<◌, [], IfSome};
 ghost use Rattle.config_model.specs.Limits.{max_helpers};
 ghost use Rattle.outside.specs.Told.{GaveNothing};
 ghost use Rattle.pass_entries.specs.Making.{Makes};
-ghost use Rattle.helper_worker.specs.Handing.{HasGo, HasStop, TookNothing};
+ghost use Rattle.helper_worker.specs.Handing.{HasGo, HasStop, TookNothing, writer_of};
 ghost use Rattle.helper_worker.specs.Rounds.{Attends, HearsOut, IsSinkBack, Visits, ends_of, told};
 
 use crate::errand::{Errand, Off, Return};
@@ -45,7 +45,7 @@ pub fn visit<R: Wait, P: Pause, S: Spawner, N: GateName>(
     requires gate { pass.old.gate ≡ gate.now }
     requires goes { HasGo h inc pass.old.seen }
     requires slot { h < max_helpers }
-    ensures { Visits h N.writer inc run.now
+    ensures { Visits h (writer_of h) inc run.now
         (told (S.children spawner.old) (S.asked spawner.old) (S.failed spawner.old))
         (told (S.children spawner.new) (S.asked spawner.new) (S.failed spawner.new))
         pass.old pass.new }
@@ -80,7 +80,7 @@ fn attend<R: Wait, P: Pause, S: Source + Drop, K: Sink + Drop, L: Leash + Drop, 
     requires slot { h < max_helpers }
     requires source { GaveNothing (S.given pipes.source) }
     requires sink { GaveNothing (K.taken pipes.sink) }
-    ensures { Attends h N.writer inc
+    ensures { Attends h (writer_of h) inc
         (ends_of (S.given result.source) (S.ended result.source) (S.faults result.source)
         (K.taken result.sink) (K.faults result.sink)) pass.old pass.new }
 {
@@ -201,7 +201,7 @@ fn take_back<R: Wait, P: Pause, K: Sink + Drop, L: Leash + Drop, N: GateName>(
     requires gate { pass.old.gate ≡ gate.now }
     requires kept { IfSome kept (λ held. TookNothing (K.taken held.sink) × HasStop pass.old.seen) }
     ensures makes { Makes pass.old [] pass.new }
-    ensures back { IsSinkBack N.writer h inc (K.taken result.sink) (K.faults result.sink)
+    ensures back { IsSinkBack (writer_of h) h inc (K.taken result.sink) (K.faults result.sink)
         pass.new.seen }
 {
     if let Some(held) = kept {
@@ -230,8 +230,8 @@ fn learn_back<K: Sink + Drop, L: Leash + Drop, N: GateName>(
     requires named { gate.now ≡ N.gate }
     requires gate { pass.old.gate ≡ gate.now }
     ensures makes { Makes pass.old [] pass.new }
-    ensures back { IsSinkBack N.writer done.h done.inc (K.taken result.sink) (K.faults result.sink)
-        pass.new.seen }
+    ensures back { IsSinkBack (writer_of done.h) done.h done.inc (K.taken result.sink)
+        (K.faults result.sink) pass.new.seen }
 {
     let Return {
         sink,

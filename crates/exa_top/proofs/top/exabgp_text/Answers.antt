@@ -1,6 +1,7 @@
 use Rattle.exa_top.proofs.CompleteLemmas.{completed, counts_rose, refuses_it}
-use Rattle.exa_top.specs.declared.words.TextCommand.TheVariants.{EncodePlain}
+use Rattle.exa_top.specs.declared.words.TextCommand.TheVariants.{EncodePlain, Parse}
 use Rattle.exa_top.proofs.EncodedLemmas.{encode_named, encodes_named, encodes_spelled}
+use Rattle.exa_top.proofs.ParsedLemmas.{parses_named}
 use Rattle.exa_top.proofs.PlayedLemmas.{play_spelled, plays_named, refused_plays}
 use Rattle.exa_top.proofs.WordLemmas.{spelled_bounded}
 use Rattle.exa_top.proofs.top.exabgp_text.Goals as goal
@@ -34,6 +35,10 @@ returns-in-Some-clause-encodes_plain g c session spells =
     encodes_spelled _ _ c.in-Some.command session _ _ _ _ _ _ c.run.result c.in-Some.ensures.found spells
     c.run.ensures.encodes
 
+pub returns-in-Some-clause-parses : goal.returns-in-Some-clause-parses
+returns-in-Some-clause-parses g c named =
+    parses_named _ c.in-Some.command _ _ _ _ c.run.result c.in-Some.ensures.found named c.run.ensures.parses
+
 pub returns-in-Some-clause-script : goal.returns-in-Some-clause-script
 returns-in-Some-clause-script g c line is = (
   c.in-Some.command,
@@ -51,6 +56,9 @@ returns-in-None-clause-encodes g c path named =
 
 pub returns-in-None-clause-encodes_plain : goal.returns-in-None-clause-encodes_plain
 returns-in-None-clause-encodes_plain g c session spells = absurd (c.in-None.ensures.none (EncodePlain session) spells)
+
+pub returns-in-None-clause-parses : goal.returns-in-None-clause-parses
+returns-in-None-clause-parses g c named = absurd (c.in-None.ensures.none Parse named)
 
 pub run-requires-clause-bounded : goal.run-requires-clause-bounded
 run-requires-clause-bounded g c lifetimes ordered = spelled_bounded _ c.in-Some.command c.in-Some.ensures.found

@@ -1,9 +1,10 @@
 use Rattle.std.proofs.Common.{refl}
 use Rattle.outside.specs.Seen.{source_seen}
-use Rattle.exa_top.specs.declared.words.TextCommand.TheVariants.{Load, Parse, Decode, Help, Version}
+use Rattle.exa_top.specs.declared.words.TextCommand.TheVariants.{Load, Decode, Help, Version}
 use Rattle.exa_top.proofs.AnsweredLemmas.{read_none, text_written}
 use Rattle.exa_top.proofs.CheckedLemmas.{ends_later}
 use Rattle.exa_top.proofs.EncodedLemmas.{encodes_later, encodes_read, file_answered, plain_answered}
+use Rattle.exa_top.proofs.ParsedLemmas.{parsed_answered, parses_later, parses_read}
 use Rattle.exa_top.proofs.PlayedLemmas.{played_answered}
 use Rattle.exa_top.proofs.top.run.Goals as goal
 
@@ -61,20 +62,19 @@ returns-in-Load-clause-config g c is =
     g.S.Source.ended g.S.Source.faults c.args.input.now)).unread is)
 
 pub returns-in-Parse-clause-answered : goal.returns-in-Parse-clause-answered
-returns-in-Parse-clause-answered g c = rw c.in-Parse.is (c.parse.ensures _)
+returns-in-Parse-clause-answered g c = rw c.in-Parse.is (parsed_answered _ _ _ _ _ _ c.parse.ensures)
+
+pub returns-in-Parse-clause-parses : goal.returns-in-Parse-clause-parses
+returns-in-Parse-clause-parses g c = rw c.in-Parse.is c.parse.ensures
 
 pub returns-in-Parse-clause-at_once : goal.returns-in-Parse-clause-at_once
-returns-in-Parse-clause-at_once g c at_once =
-    absurd (ends_later (g.F.Files.content c.args.files.now) Parse _ _ _ _ _ (c.parse.ensures _) (λ names. names)
-    at_once)
+returns-in-Parse-clause-at_once g c at_once = absurd (parses_later _ _ _ _ _ c.parse.ensures at_once)
 
 pub returns-in-Parse-clause-unread : goal.returns-in-Parse-clause-unread
-returns-in-Parse-clause-unread g c is =
-    absurd ((c.parse.ensures (g.F.Files.content c.args.files.now)).unread is)
+returns-in-Parse-clause-unread g c is = absurd (parses_read _ _ _ _ _ c.parse.ensures is)
 
 pub returns-in-Parse-clause-config : goal.returns-in-Parse-clause-config
-returns-in-Parse-clause-config g c is =
-    absurd ((c.parse.ensures (g.F.Files.content c.args.files.now)).unread is)
+returns-in-Parse-clause-config g c is = absurd (parses_read _ _ _ _ _ c.parse.ensures is)
 
 pub returns-in-Decode-clause-answered : goal.returns-in-Decode-clause-answered
 returns-in-Decode-clause-answered g c = rw c.in-Decode.is (c.decode.ensures _)

@@ -1,0 +1,4 @@
+pub mod Jobs
+pub mod Works
+pub mod Views
+pub mod Crews
