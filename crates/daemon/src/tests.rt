@@ -7,7 +7,7 @@ mod plan;
 
 use crate::{Ran, exabgp_run};
 use cases::CASES;
-use driver::{BAD, HELPERS, Holds, TWO, devices, faults, have_taken, took};
+use driver::{BAD, HELPERS, Holds, TWO, devices, faults, has_taken, have_taken, took};
 use plan::Act::{Begins, First, Opens, OtherTook, Second};
 use plan::{ALL, Fails, Held, Marks, Plan};
 use script_play::Status;
@@ -69,7 +69,8 @@ fn a_helper_that_waits_for_the_answer_of_another_gets_its_turn(
     let Ran { status, world } = exabgp_run(&rt, rt.alloc(), &["run", HELPERS], world);
     assert!(rt; !marks.was_missed());
     assert_eq!(rt; status, Status::Ok);
-    assert_eq!(rt; took(&world, 0), Some(b"done\ndone\n".as_slice()));
+    assert!(rt; has_taken(&world, 0, b"done\ndone\n"));
+    assert!(rt; has_taken(&world, 1, b"done\n"));
     Ok(())
 }
 

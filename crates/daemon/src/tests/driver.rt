@@ -205,6 +205,14 @@ pub fn took<'w>(world: &'w Devices<'_>, h: usize) -> Option<&'w [u8]> {
     pipes.sink.bytes()
 }
 
+/// Whether a helper's first child took just these bytes.
+pub fn has_taken(world: &Devices<'_>, h: usize, bytes: &[u8]) -> bool {
+    let Some(taken) = took(world, h) else {
+        return false;
+    };
+    taken == bytes
+}
+
 /// Whether the links took so many bytes of the messages of these letters.
 pub fn have_taken(
     alloc: Global,
