@@ -56,7 +56,7 @@ pub fn parse<S: Source, K: Sink>(alloc: Global, input: &mut S, output: &mut K) -
     Status::InputLong
 }
 
-// Writes how the lines read that end in a piece. The text is room for that.
+// Writes how the lines read that end in a piece. The text is a buffer for that.
 fn tell_piece<K: Sink>(
     alloc: Global,
     cutter: &mut LineCutter,
@@ -78,7 +78,7 @@ fn tell_piece<K: Sink>(
     }
 }
 
-// How the lines read that end in a piece.
+// Puts how the lines read that end in a piece.
 fn put_lines(
     alloc: Global,
     cutter: &mut LineCutter,
