@@ -1,6 +1,12 @@
-# Times two programs side by side. The scripts here read it in; they set program, make folder, and give the words of C's
-# command in the list yardstick, and those of the program's in the list subject, which is empty where it isn't built.
-# shellcheck shell=bash disable=SC2154
+# Times two programs side by side. The scripts here read it in, at the top of the repository. It takes the sizes from
+# their words, finds the program, and makes a folder that is gone at the end. They give the words of C's command in the
+# list yardstick, and those of the program's in the list subject, which is empty where it isn't built.
+# shellcheck shell=bash disable=SC2034,SC2154
+program=${PROGRAM:-$PWD/crates/exabgpd/out/exabgpd}
+sizes=("${@:-}")
+[ "$#" -gt 0 ] || sizes=(100000 1000000)
+folder=$(mktemp -d)
+trap 'rm -rf "$folder"' EXIT
 
 # One run of a command over the file of the input: processor seconds and kilobytes become a line of NAME.runs, and what
 # it prints is in NAME.printed.

@@ -10,11 +10,6 @@
 #        PROGRAM=PATH bench/play.sh        times another build
 set -eu
 cd "$(dirname "$0")/.."
-program=${PROGRAM:-$PWD/crates/exabgpd/out/exabgpd}
-sizes=("${@:-}")
-[ "$#" -gt 0 ] || sizes=(100000 1000000)
-folder=$(mktemp -d)
-trap 'rm -rf "$folder"' EXIT
 . bench/beside.sh
 cc -O2 -o "$folder/yardstick" bench/play.c
 yardstick=("$folder/yardstick" 4)
